@@ -1,0 +1,9 @@
+pub mod Runs
+pub mod Named
+pub mod Sums
+pub mod Wider
+pub mod Orders
+pub mod Setting
+pub mod Sufficient
+pub mod Closure
+pub mod Necessary
