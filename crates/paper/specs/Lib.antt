@@ -1,0 +1,9 @@
+pub mod Limits
+pub mod Runs
+pub mod Arcs
+pub mod PlantForm
+pub mod TotalsForm
+pub mod Plants
+pub mod Bounds
+pub mod Totals
+pub mod Inverse
