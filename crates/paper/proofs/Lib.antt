@@ -1,0 +1,4 @@
+pub mod Steps
+pub mod Rises
+pub mod Searching
+pub mod Making

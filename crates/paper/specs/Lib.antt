@@ -5,5 +5,6 @@ pub mod PlantForm
 pub mod TotalsForm
 pub mod Plants
 pub mod Bounds
+pub mod OfPlant
 pub mod Totals
 pub mod Inverse

@@ -7,6 +7,7 @@ use Rattle.std.specs.declared.result.Result.{Result}
 use Rattle.std.specs.declared.result.Result.the-variants.{Ok, Err}
 use Rattle.plant.specs.Limits.{most-tanks, most-valves}
 use Rattle.plant.specs.Net.{Net, empty}
+use Rattle.plant.specs.declared.question.Counts.{Counts}
 use Rattle.words.specs.declared.faults.PaperFault.{PaperFault}
 use Rattle.words.specs.declared.faults.PaperFault.the-variants.{Kind, Unnamed, Limit, Order}
 use Rattle.words.specs.Words.{words, kind, field}
@@ -42,3 +43,8 @@ plant-read bs = onward (plant-form bs) (λ _. Ok (plant-document (words bs)))
 abbrev pub plant-made : Result PlantDocument PaperFault → Net
 plant-made (Ok d) = plant-of d
 plant-made (Err e) = empty
+
+-- the counts alone
+abbrev pub plant-counts : Result PlantDocument PaperFault → Result Counts PaperFault
+plant-counts (Ok d) = Ok (record { tanks = d .tanks; valves = d .valves })
+plant-counts (Err e) = Err e

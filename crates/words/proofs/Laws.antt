@@ -93,3 +93,16 @@ here k bs w e = first-some (drop k (words bs)) w e ∙ ap (λ u. w ∷ u) (rest-
 
 pub here-inside : (k : ℕ) (bs : List ℕ) (w : ℕ) → Some w ≡ first (drop k (words bs)) → 4 * (k + 1) ≤ length bs
 here-inside k bs w e = let n = ap length (here k bs w e) in let m = length-drop k (words bs) in omega (arith, length-words bs, n, m)
+
+-- a word that was read stands at its place, and where none was read the place is past the end
+pub read-some : (k : ℕ) (ws : List ℕ) (w : ℕ) → Some w ≡ first (drop k ws) → (k < length ws) × (getD ws k 0 ≡ w)
+read-some zero [] w e = absurd (let z : _≡_ {A = ℕ} 0 1 = cc in omega arith)
+read-some zero (v ∷ ws) w e = let z : v ≡ w = cc in (omega arith, z)
+read-some (suc k) [] w e = absurd (let z : _≡_ {A = ℕ} 0 1 = cc in omega arith)
+read-some (suc k) (v ∷ ws) w e = let more = read-some k ws w e in (omega (arith, more .0), more .1)
+
+pub read-none : (k : ℕ) (ws : List ℕ) → None ≡ first (drop k ws) → (length ws ≤ k) × (getD ws k 0 ≡ 0)
+read-none zero [] e = (omega arith, refl)
+read-none zero (v ∷ ws) e = absurd (let z : _≡_ {A = ℕ} 0 1 = cc in omega arith)
+read-none (suc k) [] e = (omega arith, refl)
+read-none (suc k) (v ∷ ws) e = let more = read-none k ws e in (omega (arith, more .0), more .1)
