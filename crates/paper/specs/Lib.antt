@@ -7,4 +7,5 @@ pub mod Plants
 pub mod Bounds
 pub mod OfPlant
 pub mod Totals
+pub mod OfTotals
 pub mod Inverse
