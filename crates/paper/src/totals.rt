@@ -1,7 +1,9 @@
 // What a totals paper says: its divisor, and its totals by a reader that stands past the head.
 ghost use mathlib.Core.Path.{_≡_};
 ghost use mathlib.Core.List.{map};
+ghost use Prim.Native.Nat.{_^_, _<_};
 ghost use Rattle.std.specs.Vec.{made};
+ghost use Rattle.plant.specs.Limits.{most-valves};
 ghost use Rattle.words.specs.Left.{left};
 ghost use Rattle.paper.specs.Totals.{total-of};
 ghost use Rattle.paper.specs.TotalsForm.{totals-read};
@@ -28,6 +30,8 @@ impl Total {
     pub fn of_word(w: u32) -> Total
         ensures valve { λ r. ⌜ r .valve ≡ total-of w .valve ⌝ }
         ensures amount { λ r. ⌜ r .amount ≡ total-of w .amount ⌝ }
+        ensures there { λ r. ⌜ r .valve < most-valves ⌝ }
+        ensures small { λ r. ⌜ r .amount < 2 ^ 20 ⌝ }
     {
         Total { valve: field_of(w, 22, 6) as usize, amount: field_of(w, 0, 20) }
     }
@@ -44,7 +48,8 @@ impl<'a> TotalsPaper<'a> {
     }
 
     pub fn divisor(&self) -> u32
-        ensures { λ r. ⌜ r ≡ totals-said (now (self .entry)) .divisor ⌝ }
+        ensures is { λ r. ⌜ r ≡ totals-said (now (self .entry)) .divisor ⌝ }
+        ensures small { λ r. ⌜ r < 2 ^ 20 ⌝ }
     {
         match word_at(self.bytes, 0) {
             Some(head) => field_of(head, 0, 20),
@@ -55,6 +60,7 @@ impl<'a> TotalsPaper<'a> {
     // A reader that stands at the first total, which is word 1.
     pub fn totals(&self) -> Reader<'a>
         ensures at { λ r. ⌜ (Sized (now (self .entry)) → r .at ≡ 1) ⌝ }
+        ensures bytes { λ r. ⌜ now (r .bytes) ≡ now (now (self .entry) .bytes) ⌝ }
         ensures totals { λ r. ⌜ map total-of (left r) ≡ totals-said (now (self .entry)) .totals ⌝ }
     {
         let mut reader = Reader::new(self.bytes);

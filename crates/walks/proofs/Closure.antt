@@ -6,7 +6,7 @@ use mathlib.Core.List.{List, [], _∷_, _++_, reverseAux}
 use Prim.Native.Nat.{ℕ, zero, suc, _+_, _*_, _≤_, _<_}
 use native.Mathlib.Omega.{arith}
 use lib.Dec.{eqb, ltb}
-use Rattle.std.proofs.shelf.Tests.{eqb-true, ne-eqb, eq-eqb, or-cases, or-left, or-right, and-parts, and-from, not-true, not-from-false, false≢true, true≢false, ltb-true, lt-ltb, cases-eq, cases-lt, cases-bool, cond-true, cond-false, cond-both}
+use Rattle.std.proofs.shelf.Tests.{eqb-true, ne-eqb, eq-eqb, or-cases, or-left, or-right, or-from, and-parts, and-from, not-true, not-from-false, false≢true, true≢false, ltb-true, lt-ltb, cases-eq, cases-lt, cases-bool, cond-true, cond-false, cond-both}
 use Rattle.std.proofs.shelf.Ways.{same-from-decides}
 use Rattle.plant.specs.Net.{Net}
 use Rattle.plant.specs.Walk.{Marking}
@@ -39,6 +39,25 @@ all-below-at (suc n) p h t l =
 pub all-below-from : (n : ℕ) (p : ℕ → Bool) → ((t : ℕ) → t < n → p t ≡ true) → all-below n p ≡ true
 all-below-from zero p h = refl
 all-below-from (suc n) p h = and-from (all-below n p) (p n) (all-below-from n p (λ t l. h t (omega arith))) (h n (omega arith))
+
+pub all-below-not : (n : ℕ) (p : ℕ → Bool) (t : ℕ) → t < n → p t ≡ false → all-below n p ≡ false
+all-below-not n p t l h =
+    ⊎-elim
+    (λ (e : all-below n p ≡ true). absurd (true≢false (sym (all-below-at n p e t l) ∙ h)))
+    (λ (e : all-below n p ≡ false). e)
+    (cases-bool (all-below n p))
+
+pub some-below-not : (n : ℕ) (p : ℕ → Bool) → ((t : ℕ) → t < n → p t ≡ false) → some-below n p ≡ false
+some-below-not zero p h = refl
+some-below-not (suc n) p h = or-from (some-below n p) (p n) (some-below-not n p (λ t l. h t (omega arith))) (h n (omega arith))
+
+pub some-below-none : (n : ℕ) (p : ℕ → Bool) → some-below n p ≡ false → (t : ℕ) → t < n → p t ≡ false
+some-below-none n p h t l =
+    ⊎-elim (λ (e : p t ≡ true). absurd (true≢false (sym (some-below-at n p t l e) ∙ h))) (λ (e : p t ≡ false). e) (cases-bool (p t))
+
+pub all-below-same : (n : ℕ) (p q : ℕ → Bool) → ((t : ℕ) → t < n → p t ≡ q t) → all-below n p ≡ all-below n q
+all-below-same zero p q h = refl
+all-below-same (suc n) p q h = rw (all-below-same n p q (λ t l. h t (omega arith)), h n (omega arith)) refl
 
 -- E is part of E′, as far as numbers below n go
 abbrev pub Part : ℕ → (ℕ → Bool) → (ℕ → Bool) → Type 0

@@ -1,0 +1,5 @@
+pub mod Faults
+pub mod Question
+pub mod Judgement
+pub mod Weighing
+pub mod Accepted
