@@ -1,2 +1,7 @@
 pub mod Steps
+pub mod Lines
+pub mod PlantSteps
 pub mod Rises
+pub mod PlantExact
+pub mod TotalsSteps
+pub mod TotalsExact
