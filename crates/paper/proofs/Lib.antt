@@ -1,4 +1,9 @@
 pub mod Steps
+pub mod Lines
+pub mod PlantSteps
 pub mod Rises
+pub mod PlantExact
+pub mod TotalsSteps
+pub mod TotalsExact
 pub mod Searching
 pub mod Making

@@ -1,6 +1,7 @@
 -- What a paper plant is made of: the counts of a good paper and its arcs, or nothing.
 use mathlib.Core.Path.{_≡_, refl, sym, ap, subst, _∙_}
-use mathlib.Core.Bool.{Bool, true, false, cond, _&&_, _||_}
+use mathlib.Core.Logic.{⊎-elim}
+use mathlib.Core.Bool.{Bool, true, false, cond, _&&_}
 use mathlib.Core.List.{List, [], _∷_, map}
 use Prim.Native.Nat.{ℕ, zero, suc, _+_, _-_, _/_, _^_, _≤_, _<_}
 use native.Mathlib.Omega.{arith}
@@ -14,7 +15,7 @@ use Rattle.plant.specs.Limits.{most-tanks, most-valves}
 use Rattle.plant.specs.Net.{empty}
 use Rattle.plant.specs.declared.question.Counts.{Counts}
 use Rattle.words.specs.Words.{words, rest, kind, field}
-use Rattle.words.specs.Faults.{counted, raised, onward, within}
+use Rattle.words.specs.Faults.{counted, raised, onward}
 use Rattle.words.specs.declared.faults.PaperFault.{PaperFault}
 use Rattle.words.specs.declared.faults.PaperFault.the-variants.{Words}
 use Rattle.words.proofs.Laws.{length-words, words-rest}
@@ -25,8 +26,9 @@ use Rattle.paper.specs.Limits.{most-plant-words}
 use Rattle.paper.specs.Arcs.{PlantDocument, arc-of, plant-document, plant-of}
 use Rattle.paper.specs.PlantForm.{plant-step, plant-form, plant-read, plant-counts, plant-made}
 use Rattle.paper.specs.Plants.{Rises, Sided, arcs-plant}
-use Rattle.paper.proofs.Steps.{passed, through}
-use Rattle.paper.proofs.Rises.{opened, past-head, ordered}
+use Rattle.paper.proofs.Steps.{through}
+use Rattle.paper.proofs.PlantSteps.{arc-taken, headed, ordered}
+use Rattle.paper.proofs.Rises.{opened, never-head}
 
 -- the plant without counts and arcs is the empty plant
 pub nothing : (ws : List ℕ) → ws ≡ [] → arcs-plant 0 0 ws ≡ empty
@@ -48,27 +50,16 @@ nothing ws e = ap (λ vs. arcs-plant 0 0 vs) e ∙ shut
 -- every arc of a good paper is an intake or an outlet
 sided-run : (tanks valves least at : ℕ) (ws : List ℕ) (s : PlantForm) → run plant-step (Arcs tanks valves least) at ws ≡ Ok s → Sided ws
 sided-run tanks valves least at [] s p i h = absurd (omega arith)
-sided-run tanks valves least at (w ∷ ws) s p zero h = let a = passed (eqb (kind w) 2 || eqb (kind w) 3) _ _ _ _ p .0 in (grind (arith, tells), grind (arith, tells))
+sided-run tanks valves least at (w ∷ ws) s p zero h =
+    let t = through (plant-step (Arcs tanks valves least) at w) _ _ p in
+    let k = arc-taken tanks valves least at w (t .0) (t .1) .0 .kind-is in
+    (⊎-elim (λ (e : kind w ≡ 2). omega arith) (λ (e : kind w ≡ 3). omega arith) k, ⊎-elim (λ (e : kind w ≡ 2). omega arith) (λ (e : kind w ≡ 3). omega arith) k)
 sided-run tanks valves least at (w ∷ ws) s p (suc i) h =
     sided-run tanks valves (w / 2 ^ 16 + 1) (at + 1) ws s (ordered tanks valves least at w ws s p .1) i (omega arith)
 
 sided : (ws : List ℕ) (s : PlantForm) → run plant-step Head 0 ws ≡ Ok s → Sided (rest ws)
 sided [] s p i h = absurd (omega arith)
-sided (w ∷ ws) s p i h =
-    let a = passed (eqb (kind w) 1) _ _ _ _ p in
-    let b = passed (eqb (field w 14 14) 0) _ _ _ _ (a .1) in
-    let c = passed (within 1 most-tanks (field w 7 7) && within 1 most-valves (field w 0 7)) _ _ _ _ (b .1) in
-    sided-run (field w 7 7) (field w 0 7) 0 1 ws s (c .1) i h
-
--- a paper that was counted has a word
-some-word : (bs : List ℕ) (n : ℕ) → raised Words (counted most-plant-words bs) ≡ Ok n → 1 ≤ length (words bs)
-some-word bs n p = let m = length-words bs in let some : 4 ≤ length bs = grind (arith, tells) in omega arith
-
--- the form of a good paper does not end before its head
-pub never-head : (bs : List ℕ) → plant-form bs ≡ Ok Head → ⊥
-never-head bs p =
-    let t = through (raised Words (counted most-plant-words bs)) _ _ p in
-    past-head (words bs) (some-word bs (t .0) (t .1)) (t .2)
+sided (w ∷ ws) s p i h = sided-run (field w 7 7) (field w 0 7) 0 1 ws s (headed w ws s p .1) i h
 
 -- the counts that the form comes to are those of the document
 pub form-counts : (bs : List ℕ) (tanks valves least : ℕ) → plant-form bs ≡ Ok (Arcs tanks valves least) → plant-counts (plant-read bs) ≡ Ok (record { tanks = tanks; valves = valves })
@@ -98,8 +89,8 @@ good-form bs tanks valves least p =
       sided = subst Sided tail (sided (words bs) (Arcs tanks valves least) (t .2));
       rises = subst Rises tail (o .rise);
       made =
-        ap (λ ws. arcs-plant tanks valves ws) (sym tail)
-        ∙ (ap plant-of (sym (o .says)) ∙ ap (λ f. plant-made (onward f (λ _. Ok (plant-document (words bs))))) (sym p));
+          ap (λ ws. arcs-plant tanks valves ws) (sym tail)
+          ∙ (ap plant-of (sym (o .says)) ∙ ap (λ f. plant-made (onward f (λ _. Ok (plant-document (words bs))))) (sym p));
     }
 
 pub good : (bs : List ℕ) (counts : Counts) → Ok counts ≡ plant-counts (plant-read bs) → Good counts bs

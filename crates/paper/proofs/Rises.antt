@@ -1,36 +1,23 @@
 -- What a plant paper that is read without fault gives: counts within the limits, and arcs that rise.
-use mathlib.Core.Path.{_≡_}
-use mathlib.Core.Bool.{_&&_, _||_}
+use mathlib.Core.Path.{_≡_, sym, ap, _∙_}
 use mathlib.Core.List.{List, [], _∷_, map}
 use Prim.Native.Nat.{ℕ, zero, suc, _+_, _/_, _^_, _≤_, _<_}
 use native.Mathlib.Omega.{arith}
-use lib.Dec.{eqb, ltb, leb}
 use lib.ListN.{length, getD}
-use Rattle.std.proofs.shelf.Tests.{leb-true}
-use Rattle.std.proofs.shelf.Ways.{tells}
 use Rattle.std.specs.declared.result.Result.the-variants.{Ok}
 use Rattle.plant.specs.Limits.{most-tanks, most-valves}
-use Rattle.words.specs.Words.{words, rest, kind, field}
-use Rattle.words.specs.Faults.{counted, raised, within}
-use Rattle.words.specs.declared.faults.PaperFault.the-variants.{Words}
+use Rattle.words.specs.Words.{words, rest, field}
 use Rattle.paper.specs.declared.plant_form.PlantForm.{PlantForm}
 use Rattle.paper.specs.declared.plant_form.PlantForm.the-variants.{Head, Arcs}
 use Rattle.paper.specs.Runs.{run}
 use Rattle.paper.specs.Limits.{most-plant-words}
-use Rattle.paper.specs.Arcs.{arc-of, plant-document}
-use Rattle.paper.specs.PlantForm.{plant-step, plant-form}
+use Rattle.paper.specs.Arcs.{PlantDocument, arc-of, plant-document}
+use Rattle.paper.specs.PlantForm.{plant-step, plant-form, plant-read}
 use Rattle.paper.specs.Plants.{Rises}
-use Rattle.paper.proofs.Steps.{passed, through}
+use Rattle.paper.proofs.Steps.{through, whole-read}
+use Rattle.paper.proofs.PlantSteps.{headed, ordered}
 
--- the first word's place in the order, and the run of the words after it
-pub ordered : (tanks valves least at w : ℕ) (ws : List ℕ) (s : PlantForm) → run plant-step (Arcs tanks valves least) at (w ∷ ws) ≡ Ok s → (least ≤ w / 2 ^ 16) × (run plant-step (Arcs tanks valves (w / 2 ^ 16 + 1)) (at + 1) ws ≡ Ok s)
-ordered tanks valves least at w ws s p =
-    let a = passed (eqb (kind w) 2 || eqb (kind w) 3) _ _ _ _ p in
-    let b = passed (eqb (field w 10 6) 0) _ _ _ _ (a .1) in
-    let c = passed (ltb (field w 22 6) valves && (ltb (field w 16 6) tanks && leb 1 (field w 0 10))) _ _ _ _ (b .1) in
-    let d = passed (leb least (w / 2 ^ 16)) _ _ _ _ (c .1) in
-    (leb-true _ _ (d .0), d .1)
-
+-- each word's kind, valve and tank are at least what the form asks of the first
 above : (tanks valves least at : ℕ) (ws : List ℕ) (s : PlantForm) → run plant-step (Arcs tanks valves least) at ws ≡ Ok s → (j : ℕ) → j < length ws → least ≤ getD ws j 0 / 2 ^ 16
 above tanks valves least at [] s p j h = absurd (omega arith)
 above tanks valves least at (w ∷ ws) s p zero h = ordered tanks valves least at w ws s p .0
@@ -67,35 +54,42 @@ pub record Opened (tanks valves : ℕ) (ws : List ℕ) : Type 0 where
 pub opened-run : (ws : List ℕ) (tanks valves least : ℕ) → run plant-step Head 0 ws ≡ Ok (Arcs tanks valves least) → Opened tanks valves ws
 opened-run [] tanks valves least p = absurd (let z : _≡_ {A = ℕ} 0 1 = cc in omega arith)
 opened-run (h ∷ ws) tanks valves least p =
-    let a = passed (eqb (kind h) 1) _ _ _ _ p in
-    let b = passed (eqb (field h 14 14) 0) _ _ _ _ (a .1) in
-    let c = passed (within 1 most-tanks (field h 7 7) && within 1 most-valves (field h 0 7)) _ _ _ _ (b .1) in
-    let s = same-counts (field h 7 7) (field h 0 7) 0 1 ws _ (c .1) in
-    let same = s .1 in
+    let a = headed h ws _ p in
+    let same = same-counts (field h 7 7) (field h 0 7) 0 1 ws _ (a .1) .1 in
     let t : tanks ≡ field h 7 7 = cc in
     let v : valves ≡ field h 0 7 = cc in
-    let inside = c .0 in
     record {
       some-words = omega arith;
-      some-tanks = grind (arith, tells);
-      few-tanks = grind (arith, tells);
-      some-valves = grind (arith, tells);
-      few-valves = grind (arith, tells);
+      some-tanks = omega (arith, a .0 .some-tanks);
+      few-tanks = omega (arith, a .0 .few-tanks);
+      some-valves = omega (arith, a .0 .some-valves);
+      few-valves = omega (arith, a .0 .few-valves);
       says = cc;
-      rise = rises (field h 7 7) (field h 0 7) 0 1 ws _ (c .1);
+      rise = rises (field h 7 7) (field h 0 7) 0 1 ws _ (a .1);
     }
 
 -- a good plant paper ends past its head
 pub past-head : (ws : List ℕ) → 1 ≤ length ws → run plant-step Head 0 ws ≡ Ok Head → ⊥
 past-head [] h p = absurd (omega arith)
 past-head (w ∷ ws) h p =
-    let a = passed (eqb (kind w) 1) _ _ _ _ p in
-    let b = passed (eqb (field w 14 14) 0) _ _ _ _ (a .1) in
-    let c = passed (within 1 most-tanks (field w 7 7) && within 1 most-valves (field w 0 7)) _ _ _ _ (b .1) in
-    let s = same-counts (field w 7 7) (field w 0 7) 0 1 ws _ (c .1) in
-    let same = s .1 in
+    let same = same-counts (field w 7 7) (field w 0 7) 0 1 ws _ (headed w ws _ p .1) .1 in
     absurd (let z : _≡_ {A = ℕ} 0 1 = cc in omega arith)
 
 -- the same of a paper's bytes
 pub opened : (bs : List ℕ) (tanks valves least : ℕ) → plant-form bs ≡ Ok (Arcs tanks valves least) → Opened tanks valves (words bs)
-opened bs tanks valves least p = opened-run (words bs) tanks valves least (through (raised Words (counted most-plant-words bs)) _ _ p .2)
+opened bs tanks valves least p = opened-run (words bs) tanks valves least (whole-read plant-step Head most-plant-words bs _ p .1)
+
+pub never-head : (bs : List ℕ) → plant-form bs ≡ Ok Head → ⊥
+never-head bs p = let a = whole-read plant-step Head most-plant-words bs _ p in past-head (words bs) (a .0 .some) (a .1)
+
+-- the counts are those of the document that is read
+at-end : (bs : List ℕ) (d : PlantDocument) (s : PlantForm) → plant-form bs ≡ Ok s → plant-document (words bs) ≡ d → Opened (d .tanks) (d .valves) (words bs)
+at-end bs d Head p e = absurd (never-head bs p)
+at-end bs d (Arcs tanks valves least) p e =
+    let o = opened bs tanks valves least p in
+    let t : d .tanks ≡ tanks = ap (λ x. x .tanks) (sym e ∙ o .says) in
+    let v : d .valves ≡ valves = ap (λ x. x .valves) (sym e ∙ o .says) in
+    rw (t, v) o
+
+pub opened-read : (bs : List ℕ) (d : PlantDocument) → plant-read bs ≡ Ok d → Opened (d .tanks) (d .valves) (words bs)
+opened-read bs d p = let a = through (plant-form bs) _ _ p in let e = a .2 in at-end bs d (a .0) (a .1) (cc)

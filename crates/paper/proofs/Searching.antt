@@ -72,7 +72,7 @@ passed-by key ws m rises before after inside other j h e =
 
 -- inside the counts, what the search finds is what the plant weighs
 pub weighs-found : (gives : Bool) (t r tanks valves k : ℕ) (ws : List ℕ) (o : Option ℕ) → t < valves → r < tanks → valves ≤ 64 → tanks ≤ 64 → Sided ws → k ≡ arc-kind gives → o ≡ find-arc ((k * 64 + t) * 64 + r) ws →
-  found-weight o ≡ cond (ltb t valves && ltb r tanks) (weight-in gives (map arc-of ws) t r) 0
+    found-weight o ≡ cond (ltb t valves && ltb r tanks) (weight-in gives (map arc-of ws) t r) 0
 weighs-found gives t r tanks valves k ws o ht hr few-valves few-tanks s e f =
     ap found-weight f
     ∙ (ap (λ x. found-weight (find-arc ((x * 64 + t) * 64 + r) ws)) e

@@ -21,16 +21,16 @@ use Rattle.paper.specs.Arcs.{PlantDocument, plant-document, plant-of}
 -- what comes after one more word, at the place `at`
 abbrev pub plant-step : PlantForm → ℕ → ℕ → Result PlantForm PaperFault
 plant-step Head at w =
-  need (eqb (kind w) 1) (Kind at) (
-  need (eqb (field w 14 14) 0) (Unnamed at) (
-  need (within 1 most-tanks (field w 7 7) && within 1 most-valves (field w 0 7)) (Limit at) (
-  Ok (Arcs (field w 7 7) (field w 0 7) 0))))
+    need (eqb (kind w) 1) (Kind at) (
+    need (eqb (field w 14 14) 0) (Unnamed at) (
+    need (within 1 most-tanks (field w 7 7) && within 1 most-valves (field w 0 7)) (Limit at) (
+    Ok (Arcs (field w 7 7) (field w 0 7) 0))))
 plant-step (Arcs tanks valves least) at w =
-  need (eqb (kind w) 2 || eqb (kind w) 3) (Kind at) (
-  need (eqb (field w 10 6) 0) (Unnamed at) (
-  need (ltb (field w 22 6) valves && (ltb (field w 16 6) tanks && leb 1 (field w 0 10))) (Limit at) (
-  need (leb least (w / 2 ^ 16)) (Order at) (
-  Ok (Arcs tanks valves (w / 2 ^ 16 + 1))))))
+    need (eqb (kind w) 2 || eqb (kind w) 3) (Kind at) (
+    need (eqb (field w 10 6) 0) (Unnamed at) (
+    need (ltb (field w 22 6) valves && (ltb (field w 16 6) tanks && leb 1 (field w 0 10))) (Limit at) (
+    need (leb least (w / 2 ^ 16)) (Order at) (
+    Ok (Arcs tanks valves (w / 2 ^ 16 + 1))))))
 
 abbrev pub plant-form : List ℕ → Result PlantForm PaperFault
 plant-form bs = whole plant-step Head most-plant-words bs

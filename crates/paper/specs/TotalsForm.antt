@@ -19,16 +19,16 @@ use Rattle.paper.specs.Totals.{TotalsDocument, totals-document}
 -- what comes after one more word, at the place `at`
 abbrev pub totals-step : TotalsForm → ℕ → ℕ → Result TotalsForm PaperFault
 totals-step (Head valves) at w =
-  need (eqb (kind w) 4) (Kind at) (
-  need (eqb (field w 20 8) 0) (Unnamed at) (
-  need (within 1 most-divisor (field w 0 20)) (Limit at) (
-  Ok (Totals valves 0))))
+    need (eqb (kind w) 4) (Kind at) (
+    need (eqb (field w 20 8) 0) (Unnamed at) (
+    need (within 1 most-divisor (field w 0 20)) (Limit at) (
+    Ok (Totals valves 0))))
 totals-step (Totals valves least) at w =
-  need (eqb (kind w) 5) (Kind at) (
-  need (eqb (field w 20 2) 0) (Unnamed at) (
-  need (ltb (field w 22 6) valves && within 1 most-total (field w 0 20)) (Limit at) (
-  need (leb least (field w 22 6)) (Order at) (
-  Ok (Totals valves (field w 22 6 + 1))))))
+    need (eqb (kind w) 5) (Kind at) (
+    need (eqb (field w 20 2) 0) (Unnamed at) (
+    need (ltb (field w 22 6) valves && within 1 most-total (field w 0 20)) (Limit at) (
+    need (leb least (field w 22 6)) (Order at) (
+    Ok (Totals valves (field w 22 6 + 1))))))
 
 -- on a plant with so many valves
 abbrev pub totals-form : ℕ → List ℕ → Result TotalsForm PaperFault

@@ -1,4 +1,5 @@
 // The forms of papers, and the plant that a plant paper is.
+pub mod exact;
 pub mod form;
 pub mod limits;
 pub mod paper_plant;

@@ -12,7 +12,11 @@ use words::word::kind_of;
 #[derive(Clone, Copy, Debug, PartialEq)]
 pub enum PlantForm {
     Head,
-    Arcs { tanks: usize, valves: usize, least: u32 },
+    Arcs {
+        tanks: usize,
+        valves: usize,
+        least: u32,
+    },
 }
 
 pub impl Form for PlantForm as PlantFormForm {
@@ -29,20 +33,38 @@ pub impl Form for PlantForm as PlantFormForm {
                 if tanks < 1 || tanks > MOST_TANKS || valves < 1 || valves > MOST_VALVES {
                     return Err(PaperFault::Limit(at));
                 }
-                Ok(PlantForm::Arcs { tanks, valves, least: 0 })
+                Ok(PlantForm::Arcs {
+                    tanks,
+                    valves,
+                    least: 0,
+                })
             }
-            (PlantForm::Arcs { tanks, valves, least }, 2 | 3) => {
+            (
+                PlantForm::Arcs {
+                    tanks,
+                    valves,
+                    least,
+                },
+                2 | 3,
+            ) => {
                 let key = w >> 16;
                 if field_of(w, 10, 6) != 0 {
                     return Err(PaperFault::Unnamed(at));
                 }
-                if field_of(w, 22, 6) as usize >= valves || field_of(w, 16, 6) as usize >= tanks || field_of(w, 0, 10) < 1 {
+                if field_of(w, 22, 6) as usize >= valves
+                    || field_of(w, 16, 6) as usize >= tanks
+                    || field_of(w, 0, 10) < 1
+                {
                     return Err(PaperFault::Limit(at));
                 }
                 if key < least {
                     return Err(PaperFault::Order(at));
                 }
-                Ok(PlantForm::Arcs { tanks, valves, least: key + 1 })
+                Ok(PlantForm::Arcs {
+                    tanks,
+                    valves,
+                    least: key + 1,
+                })
             }
             _ => Err(PaperFault::Kind(at)),
         }

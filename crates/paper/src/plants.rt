@@ -46,9 +46,18 @@ impl<'a> PaperPlant<'a> {
         ensures { λ r. ⌜ plant-meant r ≡ plant-made (plant-read (now (paper .entry))) ⌝ }
     {
         let Ok(counts) = check_plant(paper) else {
-            return PaperPlant { counts: Counts { tanks: 0, valves: 0 }, arcs: &paper[0..0] };
+            return PaperPlant {
+                counts: Counts {
+                    tanks: 0,
+                    valves: 0,
+                },
+                arcs: &paper[0..0],
+            };
         };
-        PaperPlant { counts, arcs: &paper[4..paper.len()] }
+        PaperPlant {
+            counts,
+            arcs: &paper[4..paper.len()],
+        }
     }
 
     // The kind, valve and tank of arc word k: its top 16 bits.

@@ -33,7 +33,10 @@ impl Total {
         ensures there { λ r. ⌜ r .valve < most-valves ⌝ }
         ensures small { λ r. ⌜ r .amount < 2 ^ 20 ⌝ }
     {
-        Total { valve: field_of(w, 22, 6) as usize, amount: field_of(w, 0, 20) }
+        Total {
+            valve: field_of(w, 22, 6) as usize,
+            amount: field_of(w, 0, 20),
+        }
     }
 }
 

@@ -42,7 +42,10 @@ pub impl Form for TotalsForm as TotalsFormForm {
                 if valve < least {
                     return Err(PaperFault::Order(at));
                 }
-                Ok(TotalsForm::Totals { valves, least: valve + 1 })
+                Ok(TotalsForm::Totals {
+                    valves,
+                    least: valve + 1,
+                })
             }
             _ => Err(PaperFault::Kind(at)),
         }

@@ -35,8 +35,8 @@ unbalanced N A B d = first-below (N .tanks) (λ r. not (eqb (balance-side N A d 
 -- the first total is word 1 of its paper
 abbrev pub judged : Net → List ℕ → List ℕ → TotalsDocument → Result Verdict TotalsFault
 judged N A B d =
-  refusing (closed-at N 1 (d .totals)) Closed (
-  refusing (unbalanced N A B d) Unbalanced (
-  refusing (left-out N (held A) (named (d .totals))) NoStart (
-  refusing (left-out (turned N) (held B) (named (d .totals))) NoEnd (
-  Ok Joined))))
+    refusing (closed-at N 1 (d .totals)) Closed (
+    refusing (unbalanced N A B d) Unbalanced (
+    refusing (left-out N (held A) (named (d .totals))) NoStart (
+    refusing (left-out (turned N) (held B) (named (d .totals))) NoEnd (
+    Ok Joined))))

@@ -29,13 +29,13 @@ over A = first-below (length A) (λ r. ltb most-amount (held A r))
 -- both lengths come before any amount, the source before the target
 abbrev pub asked : ℕ → List ℕ → List ℕ → Result (Unit {0}) QuestionFault
 asked tanks A B =
-  cond (eqb (length A) tanks) (
-  cond (eqb (length B) tanks) (
-  refusing (over A) (Amount Source) (
-  refusing (over B) (Amount Target) (
-  Ok tt)))
-  (Err (Length Target)))
-  (Err (Length Source))
+    cond (eqb (length A) tanks) (
+    cond (eqb (length B) tanks) (
+    refusing (over A) (Amount Source) (
+    refusing (over B) (Amount Target) (
+    Ok tt)))
+    (Err (Length Target)))
+    (Err (Length Source))
 
 -- a filling of a plant with so many tanks, within the limits
 pub record Filling (tanks : ℕ) (A : List ℕ) : Type 0 where

@@ -13,6 +13,6 @@ use Rattle.weighing.specs.Judgement.{judged}
 
 abbrev pub weighs : Net → List ℕ → List ℕ → List ℕ → Result Verdict WeighingFault
 weighs N A B bs =
-  onward (raised Question (asked (N .tanks) A B)) (λ _.
-  onward (raised Paper (totals-read (N .valves) bs)) (λ d.
-  raised Totals (judged N A B d)))
+    onward (raised Question (asked (N .tanks) A B)) (λ _.
+    onward (raised Paper (totals-read (N .valves) bs)) (λ d.
+    raised Totals (judged N A B d)))

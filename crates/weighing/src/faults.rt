@@ -79,7 +79,11 @@ impl QuestionFault {
             QuestionFault::Amount(Side::Source, tank) => (11, tank as usize),
             QuestionFault::Amount(Side::Target, tank) => (11, tank as usize + 64),
         };
-        Refusal { number, place, part: Part::Question }
+        Refusal {
+            number,
+            place,
+            part: Part::Question,
+        }
     }
 }
 
@@ -93,7 +97,11 @@ impl TotalsFault {
             TotalsFault::NoStart(valve) => (14, valve),
             TotalsFault::NoEnd(valve) => (15, valve),
         };
-        Refusal { number, place, part: Part::Weighing }
+        Refusal {
+            number,
+            place,
+            part: Part::Weighing,
+        }
     }
 }
 

@@ -3,4 +3,3 @@ pub mod faults;
 pub mod question;
 pub mod totals;
 pub mod weigh;
-

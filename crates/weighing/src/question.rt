@@ -23,7 +23,11 @@ fn first_over(filling: &[u32]) -> Option<usize>
 }
 
 // Whether both fillings are of a plant with so many tanks and within the limits.
-pub(crate) fn check_question(tanks: usize, source: &[u32], target: &[u32]) -> Result<(), QuestionFault>
+pub(crate) fn check_question(
+    tanks: usize,
+    source: &[u32],
+    target: &[u32],
+) -> Result<(), QuestionFault>
     requires { ⌜ tanks ≤ most-tanks ⌝ }
     ensures { λ r. ⌜ r ≡ asked tanks (now (source .entry)) (now (target .entry)) ⌝ }
 {

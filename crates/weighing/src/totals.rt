@@ -66,7 +66,12 @@ fn side_of<P: Plant>(plant: &P, tank: usize, filling: &[u32], paper: &TotalsPape
 }
 
 // The first tank that does not balance: what the plant takes is what the turned plant gives.
-fn first_unbalanced<P: Plant>(plant: &P, source: &[u32], target: &[u32], paper: &TotalsPaper) -> Option<usize>
+fn first_unbalanced<P: Plant>(
+    plant: &P,
+    source: &[u32],
+    target: &[u32],
+    paper: &TotalsPaper,
+) -> Option<usize>
     requires { ⌜ Sized (now paper) ⌝ }
     requires { ⌜ length (now source) ≡ P·Plant .meaning (now plant) .tanks ⌝ ∗ ⌜ length (now target) ≡ P·Plant .meaning (now plant) .tanks ⌝ }
     ensures { λ r. ⌜ r ≡ unbalanced (P·Plant .meaning (now (plant .entry))) (now (source .entry)) (now (target .entry)) (totals-said (now (paper .entry))) ⌝ }
@@ -93,7 +98,12 @@ fn totalled(paper: &TotalsPaper) -> ValveSet
 }
 
 // The four conditions in their order, each with its lowest place.
-pub(crate) fn weigh_totals<P: Plant>(plant: &P, source: &[u32], target: &[u32], paper: &TotalsPaper) -> Result<Verdict, TotalsFault>
+pub(crate) fn weigh_totals<P: Plant>(
+    plant: &P,
+    source: &[u32],
+    target: &[u32],
+    paper: &TotalsPaper,
+) -> Result<Verdict, TotalsFault>
     requires { ⌜ Sized (now paper) ⌝ }
     requires { ⌜ length (now source) ≡ P·Plant .meaning (now plant) .tanks ⌝ ∗ ⌜ length (now target) ≡ P·Plant .meaning (now plant) .tanks ⌝ }
     ensures { λ r. ⌜ r ≡ judged (P·Plant .meaning (now (plant .entry))) (now (source .entry)) (now (target .entry)) (totals-said (now (paper .entry))) ⌝ }

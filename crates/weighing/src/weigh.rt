@@ -12,7 +12,12 @@ use paper::TotalsPaper;
 use plant::Plant;
 
 // Whether the paper shows a walk from source to target: the question is judged first, then the paper, then its totals on the plant.
-pub fn weigh<P: Plant>(plant: &P, source: &[u32], target: &[u32], evidence: &[u8]) -> Result<Verdict, WeighingFault>
+pub fn weigh<P: Plant>(
+    plant: &P,
+    source: &[u32],
+    target: &[u32],
+    evidence: &[u8],
+) -> Result<Verdict, WeighingFault>
     ensures answer { λ r. ⌜ r ≡ weighs (P·Plant .meaning (now (plant .entry))) (now (source .entry)) (now (target .entry)) (now (evidence .entry)) ⌝ }
 {
     let counts = plant.counts();

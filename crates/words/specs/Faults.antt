@@ -28,11 +28,11 @@ of-paper (Order k) = record { number = 8; place = k; part = InPaper }
 -- how many words the bytes are, at most `most`, or the first fault of their length
 abbrev pub counted : ℕ → List ℕ → Result ℕ WordFault
 counted most bs =
-  cond (eqb (length bs % 4) 0) (
-  cond (eqb (length bs) 0) (Err Empty) (
-  cond (ltb most (length bs / 4)) (Err (Long (length bs / 4)))
-  (Ok (length bs / 4))))
-  (Err (Ragged (length bs / 4)))
+    cond (eqb (length bs % 4) 0) (
+    cond (eqb (length bs) 0) (Err Empty) (
+    cond (ltb most (length bs / 4)) (Err (Long (length bs / 4)))
+    (Ok (length bs / 4))))
+    (Err (Ragged (length bs / 4)))
 
 -- a rule that a word has to keep: where the test fails, the fault is the answer
 abbrev pub need : {A : Type 0} → Bool → PaperFault → Result A PaperFault → Result A PaperFault

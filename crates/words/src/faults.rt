@@ -56,7 +56,11 @@ impl WordFault {
             WordFault::Empty => (2, 0),
             WordFault::Long(words) => (3, words),
         };
-        Refusal { number, place, part: Part::Words }
+        Refusal {
+            number,
+            place,
+            part: Part::Words,
+        }
     }
 }
 
@@ -71,7 +75,11 @@ impl PaperFault {
             PaperFault::Limit(word) => (7, word),
             PaperFault::Order(word) => (8, word),
         };
-        Refusal { number, place, part: Part::Paper }
+        Refusal {
+            number,
+            place,
+            part: Part::Paper,
+        }
     }
 }
 

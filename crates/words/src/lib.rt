@@ -5,13 +5,13 @@ pub mod reader;
 pub mod reading;
 pub mod word;
 
-pub use faults::Part;
-pub use faults::PartDebug;
-pub use faults::PartPartialEq;
 pub use faults::PaperFault;
 pub use faults::PaperFaultDebug;
 pub use faults::PaperFaultFromWordFault;
 pub use faults::PaperFaultPartialEq;
+pub use faults::Part;
+pub use faults::PartDebug;
+pub use faults::PartPartialEq;
 pub use faults::Refusal;
 pub use faults::RefusalDebug;
 pub use faults::RefusalPartialEq;

@@ -48,5 +48,9 @@ pub fn field_of(w: u32, low: u32, width: u32) -> u32
     ensures { λ r. ⌜ r ≡ field w low width ⌝ }
 {
     let from_low = from_bit(w, low);
-    if width < 32 { from_low % (1 << width) } else { from_low }
+    if width < 32 {
+        from_low % (1 << width)
+    } else {
+        from_low
+    }
 }

@@ -1,6 +1,7 @@
 use mathlib.Core.Path.{sym, ap, _∙_}
 use Rattle.std.specs.declared.result.Result.the-variants.{Ok}
-use Rattle.paper.proofs.Making.{never-head, form-counts}
+use Rattle.paper.proofs.Rises.{never-head}
+use Rattle.paper.proofs.Making.{form-counts}
 use Rattle.paper.proofs.plants.check_plant.Needs as need
 
 pub unreachable-requires : need.unreachable-requires

@@ -15,7 +15,7 @@ returns-then-side-of g c =
     let N = g .P·Plant .meaning (c .args .plant .now) in
     let d = totals-said (c .args .paper .now) in
     let differ : eqb (balance-side N (c .args .source .now) d (c .loop-tank .tank)) (balance-side (turned N) (c .args .target .now) d (c .loop-tank .tank)) ≡ false =
-      ne-eqb _ _ (λ e. c .if-side-of .taken (c .side-of .ensures ∙ (e ∙ sym (c .side-of-in-loop-tank .ensures)))) in
+    ne-eqb _ _ (λ e. c .if-side-of .taken (c .side-of .ensures ∙ (e ∙ sym (c .side-of-in-loop-tank .ensures)))) in
     sym (first-some (λ r. not (eqb (balance-side N (c .args .source .now) d r) (balance-side (turned N) (c .args .target .now) d r))) (N .tanks) (c .loop-tank .tank)
     (record { below = omega arith; passes = not-from-false _ differ; least = c .loop-tank .inv }))
 

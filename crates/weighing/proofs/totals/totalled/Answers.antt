@@ -17,9 +17,10 @@ loop-w-holds c = (refl, λ t. ap (λ b. b || named (map total-of (left (c .total
 
 pub loop-w-again : need.loop-w-again
 loop-w-again c =
-    let inside : c .of-word .result .valve < length (c .loop-w .set) = omega (arith, c .of-word .ensures .there, c .loop-w .inv .0) in
-    (length-set (c .loop-w .set) (c .of-word .result .valve) _ ∙ c .loop-w .inv .0,
-     λ t.
-       mark-more (c .loop-w .set) (c .of-word .result .valve) t (named (map total-of (left (c .next .last .self))) t) inside
-       ∙ (ap (λ v. marked (c .loop-w .set) t || (eqb v t || named (map total-of (left (c .next .last .self))) t)) (c .of-word .ensures .valve)
-       ∙ (ap (λ ws. marked (c .loop-w .set) t || named (map total-of ws) t) (sym (c .in-Some .ensures tt .cases .0)) ∙ c .loop-w .inv .1 t)))
+    let inside : c .of-word .result .valve < length (c .loop-w .set) = omega (arith, c .of-word .ensures .there, c .loop-w .inv .0) in (
+      length-set (c .loop-w .set) (c .of-word .result .valve) _ ∙ c .loop-w .inv .0,
+      λ t.
+          mark-more (c .loop-w .set) (c .of-word .result .valve) t (named (map total-of (left (c .next .last .self))) t) inside
+          ∙ (ap (λ v. marked (c .loop-w .set) t || (eqb v t || named (map total-of (left (c .next .last .self))) t)) (c .of-word .ensures .valve)
+          ∙ (ap (λ ws. marked (c .loop-w .set) t || named (map total-of ws) t) (sym (c .in-Some .ensures tt .cases .0)) ∙ c .loop-w .inv .1 t)),
+    )
