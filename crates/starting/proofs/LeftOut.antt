@@ -12,13 +12,8 @@ use Rattle.walks.specs.Rounds.{greatest}
 use Rattle.walks.specs.Theorems.{Inside}
 use Rattle.walks.proofs.Closure.{greatest-sound, greatest-complete, starts-all, all-starts}
 use Rattle.starting.specs.Starting.{left-out}
+use Rattle.starting.specs.LeftOut.{FirstOut}
 use Rattle.starting.proofs.Firsts.{first-none, first-some, none-first, some-first}
-
--- t is the lowest valve of S outside the greatest starting part of S
-pub record FirstOut (N : Net) (m : Marking) (S : ℕ → Bool) (t : ℕ) : Type 0 where
-  pub member : S t ≡ true
-  pub outside : InGreatest N m S t → ⊥
-  pub lowest : (u : ℕ) → u < t → S u ≡ true → InGreatest N m S u
 
 module _ (N : Net) (m : Marking) (S : ℕ → Bool) where
   abbrev out : ℕ → Bool

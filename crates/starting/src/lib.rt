@@ -1,4 +1,5 @@
 // The greatest starting part of a set of valves, computed.
+pub mod laws;
 pub mod rounds;
 
 pub use rounds::first_left_out;

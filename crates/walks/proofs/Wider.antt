@@ -9,7 +9,7 @@ use lib.Dec.{eqb}
 use Rattle.std.proofs.shelf.Tests.{eqb-true, eq-eqb, or-left, or-right, or-cases, and-parts, false≢true}
 use Rattle.plant.specs.Net.{Net, narrowed}
 use Rattle.plant.specs.Walk.{Firing, Marking, Fires, Leads, stays, fires, Walk}
-use Rattle.plant.specs.Firings.{named, WalkBy}
+use Rattle.plant.specs.Firings.{named}
 use Rattle.plant.specs.Totals.{Positive}
 use Rattle.walks.specs.Theorems.{SameWeights}
 use Rattle.walks.proofs.Named.{named-head}
@@ -39,16 +39,12 @@ leads-wider N N′ w (fires {f = f} {fs = fs} h u) o =
     })
     (leads-wider N N′ w u (λ t k. o t (or-right _ _ k)))
 
-pub walk-wider : (N N′ : Net) → SameWeights N N′ → (A B : List ℕ) (x : Walk N A B) → ((t : ℕ) → named (x .firings) t ≡ true → N′ .opens t ≡ true) → WalkBy N′ A B (named (x .firings))
-walk-wider N N′ w A B x o = record {
-  walk = record { scale = x .scale; positive = x .positive; firings = x .firings; leads = leads-wider N N′ w (x .leads) o };
-  only = λ t k. k;
-}
+pub walk-wider : (N N′ : Net) → SameWeights N N′ → (A B : List ℕ) (x : Walk N A B) → ((t : ℕ) → named (x .firings) t ≡ true → N′ .opens t ≡ true) → (y : Walk N′ A B) × (y .scale ≡ x .scale) × (y .firings ≡ x .firings)
+walk-wider N N′ w A B x o = (record { scale = x .scale; positive = x .positive; firings = x .firings; leads = leads-wider N N′ w (x .leads) o }, refl, refl)
 
-pub walk-widened : (shut : ℕ → Bool) (N : Net) (A B : List ℕ) → Walk (narrowed shut N) A B → Walk N A B
+pub walk-widened : (shut : ℕ → Bool) (N : Net) (A B : List ℕ) (x : Walk (narrowed shut N) A B) → (y : Walk N A B) × (y .scale ≡ x .scale) × (y .firings ≡ x .firings)
 walk-widened shut N A B x =
     walk-wider (narrowed shut N) N
     (record { tanks = refl; intake = λ t r. refl; outlet = λ t r. refl })
     A B x
     (λ t k. and-parts (N .opens t) (not (shut t)) (run-open (narrowed shut N) (x .leads) t k) .0)
-    .walk

@@ -32,13 +32,13 @@ Walks-give-totals = (N : Net) → Bounded N → (A B : List ℕ) (x : Walk N A B
 abbrev pub Walks-turn : Type 0
 Walks-turn = (N : Net) (A B : List ℕ) (x : Walk N A B) → (y : Walk (turned N) B A) × (y .scale ≡ x .scale) × (y .firings ≡ reverse (x .firings))
 
--- a walk is a walk of every plant with the same weights in which the fired valves are open
+-- a walk is a walk of every plant with the same weights in which the fired valves are open: the same scale and the same firings
 abbrev pub Walks-carry-over : Type 0
-Walks-carry-over = (N N′ : Net) → SameWeights N N′ → (A B : List ℕ) (x : Walk N A B) → ((t : ℕ) → named (x .firings) t ≡ true → N′ .opens t ≡ true) → WalkBy N′ A B (named (x .firings))
+Walks-carry-over = (N N′ : Net) → SameWeights N N′ → (A B : List ℕ) (x : Walk N A B) → ((t : ℕ) → named (x .firings) t ≡ true → N′ .opens t ≡ true) → (y : Walk N′ A B) × (y .scale ≡ x .scale) × (y .firings ≡ x .firings)
 
--- a walk of a plant with fewer open valves is a walk of the plant: closing valves adds none
+-- a walk of a plant with fewer open valves is a walk of the plant, so closing valves adds none
 abbrev pub Closing-adds-no-walk : Type 0
-Closing-adds-no-walk = (shut : ℕ → Bool) (N : Net) (A B : List ℕ) → Walk (narrowed shut N) A B → Walk N A B
+Closing-adds-no-walk = (shut : ℕ → Bool) (N : Net) (A B : List ℕ) (x : Walk (narrowed shut N) A B) → (y : Walk N A B) × (y .scale ≡ x .scale) × (y .firings ≡ x .firings)
 
 -- the rounds compute the greatest starting part: the union of the subsets that start, which starts itself
 pub record Rounds-find-the-greatest-part : Type 0 where

@@ -22,7 +22,7 @@ pub fn walks_turn() -> bool
     true
 }
 
-// A walk is a walk of every plant with the same weights in which its valves are open.
+// A walk is a walk of every plant with the same weights in which its valves are open, with the same scale and firings.
 pub fn walks_carry_over() -> bool
     ensures { λ _. ⌜ Walks-carry-over ⌝ }
 {
