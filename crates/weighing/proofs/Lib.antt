@@ -1,2 +1,4 @@
 pub mod Sets
 pub mod Judging
+pub mod Conditions
+pub mod Accepting
