@@ -1,0 +1,8 @@
+// One call from the bytes of a dossier to the line that is printed.
+pub mod faults;
+pub mod limits;
+pub mod parts;
+
+pub use faults::DossierFault;
+pub use faults::DossierFaultDebug;
+pub use faults::DossierFaultPartialEq;
