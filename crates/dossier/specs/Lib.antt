@@ -1,3 +1,6 @@
 pub mod Limits
 pub mod Faults
 pub mod Parts
+pub mod Fillings
+pub mod OfFilling
+pub mod Judging

@@ -1,8 +1,12 @@
 // One call from the bytes of a dossier to the line that is printed.
 pub mod faults;
+pub mod filling;
+pub mod fillings;
+pub mod judging;
 pub mod limits;
 pub mod parts;
 
 pub use faults::DossierFault;
 pub use faults::DossierFaultDebug;
 pub use faults::DossierFaultPartialEq;
+pub use judging::judge;
