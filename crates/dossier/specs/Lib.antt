@@ -4,3 +4,4 @@ pub mod Parts
 pub mod Fillings
 pub mod OfFilling
 pub mod Judging
+pub mod Line

@@ -1,4 +1,5 @@
 // One call from the bytes of a dossier to the line that is printed.
+pub mod answer;
 pub mod faults;
 pub mod filling;
 pub mod fillings;
@@ -6,6 +7,9 @@ pub mod judging;
 pub mod limits;
 pub mod parts;
 
+pub use answer::Answer;
+pub use answer::AnswerDisplay;
+pub use answer::line;
 pub use faults::DossierFault;
 pub use faults::DossierFaultDebug;
 pub use faults::DossierFaultPartialEq;
