@@ -5,3 +5,4 @@ pub mod Fillings
 pub mod OfFilling
 pub mod Judging
 pub mod Line
+pub mod Kinds

@@ -4,6 +4,7 @@ pub mod faults;
 pub mod filling;
 pub mod fillings;
 pub mod judging;
+pub mod laws;
 pub mod limits;
 pub mod parts;
 

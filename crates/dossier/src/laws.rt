@@ -1,0 +1,16 @@
+// Laws of dossiers.
+ghost use Rattle.dossier.specs.Kinds.{Parts-are-the-input, Parts-go-by-kind};
+
+// The four parts of a dossier, joined again, are the dossier.
+pub fn parts_are_the_input() -> bool
+    ensures { λ _. ⌜ Parts-are-the-input ⌝ }
+{
+    true
+}
+
+// Each part has the words that its name says, and goes on as long as they do.
+pub fn parts_go_by_kind() -> bool
+    ensures { λ _. ⌜ Parts-go-by-kind ⌝ }
+{
+    true
+}
