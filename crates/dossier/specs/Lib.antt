@@ -6,3 +6,4 @@ pub mod OfFilling
 pub mod Judging
 pub mod Line
 pub mod Kinds
+pub mod Written
