@@ -1,0 +1,5 @@
+pub mod Turns
+pub mod Judged
+pub mod Cutting
+pub mod Writing
+pub mod Dossiers
