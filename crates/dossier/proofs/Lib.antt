@@ -3,3 +3,4 @@ pub mod Judged
 pub mod Cutting
 pub mod Writing
 pub mod Dossiers
+pub mod Showing

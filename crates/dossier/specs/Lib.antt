@@ -6,4 +6,5 @@ pub mod OfFilling
 pub mod Judging
 pub mod Line
 pub mod Kinds
+pub mod Shown
 pub mod Written

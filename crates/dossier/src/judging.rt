@@ -1,6 +1,9 @@
 // The judgement of a dossier.
 ghost use mathlib.Core.Path.{_≡_};
+ghost use Rattle.std.specs.declared.result.Result.the-variants.{Ok};
+ghost use Rattle.weighing.specs.declared.faults.Verdict.the-variants.{Joined};
 ghost use Rattle.dossier.specs.Judging.{judged};
+ghost use Rattle.dossier.specs.Shown.{Has-walk};
 use crate::faults::DossierFault;
 use crate::faults::DossierFaultFromWeighingFault;
 use crate::faults::DossierFaultFromWordFault;
@@ -13,8 +16,8 @@ use paper::check_plant;
 use weighing::faults::Verdict;
 use weighing::weigh::weigh;
 
-// Whether the dossier's evidence shows a walk from its source to its target, or the first fault of the dossier.
-pub fn judge(input: &[u8]) -> Result<Verdict, DossierFault>
+// The checks in their order.
+fn judge_in_turn(input: &[u8]) -> Result<Verdict, DossierFault>
     ensures { λ r. ⌜ r ≡ judged (now (input .entry)) ⌝ }
 {
     check_size(input)?;
@@ -33,4 +36,13 @@ pub fn judge(input: &[u8]) -> Result<Verdict, DossierFault>
     let plant = PaperPlant::new(parts.plant);
     let verdict = weigh(&plant, source.amounts(), target.amounts(), parts.evidence)?;
     Ok(verdict)
+}
+
+// What the dossier's evidence shows of its plant, source and target, or the first fault of the dossier. JOINED is answered only
+// where the plant has a walk from the source to the target.
+pub fn judge(input: &[u8]) -> Result<Verdict, DossierFault>
+    ensures joined { λ r. ⌜ (r ≡ Ok Joined → Has-walk (now (input .entry))) ⌝ }
+    ensures answer { λ r. ⌜ r ≡ judged (now (input .entry)) ⌝ }
+{
+    judge_in_turn(input)
 }
