@@ -19,10 +19,10 @@ use Rattle.weighing.specs.Weighing.{weighs}
 use Rattle.dossier.specs.declared.faults.DossierFault.the-variants.{Weighing}
 use Rattle.dossier.specs.declared.parts.Run.the-variants.{Before, Of}
 use Rattle.dossier.specs.Limits.{most-input-bytes}
+use Rattle.dossier.specs.Faults.{sized}
 use Rattle.dossier.specs.Parts.{goes-on, run-of, after, source-kind, target-kind, source-part, target-part, evidence-part}
 use Rattle.dossier.specs.Kinds.{Opens-otherwise}
 use Rattle.dossier.specs.Fillings.{fill-read}
-use Rattle.dossier.specs.Judging.{sized}
 use Rattle.dossier.specs.Written.{Fillable, Writable, fill-words, fill-paper, dossier-paper, A-written-dossier-is-weighed}
 use Rattle.dossier.proofs.Cutting.{Stops}
 use Rattle.dossier.proofs.Writing.{Cut-off, cut-off, length-bytes, words-before, goes-before, goes-with, stops-otherwise, plant-small, plant-kinds, fill-small, fill-kinds, fill-back}

@@ -17,9 +17,10 @@ use Rattle.weighing.specs.Weighing.{weighs}
 use Rattle.weighing.specs.declared.faults.Verdict.{Verdict}
 use Rattle.dossier.specs.declared.faults.DossierFault.{DossierFault}
 use Rattle.dossier.specs.declared.faults.DossierFault.the-variants.{Input, Plant, Source, Target, Weighing}
+use Rattle.dossier.specs.Faults.{sized}
 use Rattle.dossier.specs.Parts.{plant-part, source-part, target-part, evidence-part}
 use Rattle.dossier.specs.Fillings.{fill-read}
-use Rattle.dossier.specs.Judging.{sized, judged}
+use Rattle.dossier.specs.Judging.{judged}
 
 -- the judgement by what the four readings give
 abbrev by-readings : Result (Unit {0}) WordFault → Result PlantDocument PaperFault → Result (List ℕ) PaperFault → Result (List ℕ) PaperFault → List ℕ → Result Verdict DossierFault

@@ -1,7 +1,8 @@
 // Why a dossier is refused. The upper fault carries the lower one whole.
 ghost use mathlib.Core.Path.{_≡_};
-ghost use Rattle.dossier.specs.Faults.{of-dossier};
+ghost use Rattle.dossier.specs.Faults.{of-dossier, sized};
 ghost use Rattle.dossier.specs.declared.faults.DossierFault.the-variants.{Input as OfInput, Weighing as OfWeighing};
+use crate::limits::MOST_INPUT_BYTES;
 use weighing::faults::WeighingFault;
 use weighing::faults::WeighingFaultDebug;
 use weighing::faults::WeighingFaultPartialEq;
@@ -51,4 +52,17 @@ impl DossierFault {
             DossierFault::Weighing(fault) => fault.refusal(),
         }
     }
+}
+
+// Whether the bytes are not too many, and are whole words. Too long a dossier is refused at the limit, however long it is.
+pub fn check_size(input: &[u8]) -> Result<(), WordFault>
+    ensures { λ r. ⌜ r ≡ sized (now (input .entry)) ⌝ }
+{
+    if input.len() > MOST_INPUT_BYTES {
+        return Err(WordFault::Long(MOST_INPUT_BYTES / 4));
+    }
+    if input.len() % 4 != 0 {
+        return Err(WordFault::Ragged(input.len() / 4));
+    }
+    Ok(())
 }

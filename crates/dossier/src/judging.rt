@@ -1,31 +1,17 @@
 // The judgement of a dossier.
 ghost use mathlib.Core.Path.{_≡_};
-ghost use Rattle.dossier.specs.Judging.{sized, judged};
+ghost use Rattle.dossier.specs.Judging.{judged};
 use crate::faults::DossierFault;
 use crate::faults::DossierFaultFromWeighingFault;
 use crate::faults::DossierFaultFromWordFault;
+use crate::faults::check_size;
 use crate::filling::Filling;
-use crate::limits::MOST_INPUT_BYTES;
 use crate::parts::split;
 use paper::PaperPlant;
 use paper::PaperPlantPlant;
 use paper::check_plant;
 use weighing::faults::Verdict;
 use weighing::weigh::weigh;
-use words::WordFault;
-
-// Whether the bytes are not too many, and are whole words. Too long a dossier is refused at the limit, however long it is.
-fn check_size(input: &[u8]) -> Result<(), WordFault>
-    ensures { λ r. ⌜ r ≡ sized (now (input .entry)) ⌝ }
-{
-    if input.len() > MOST_INPUT_BYTES {
-        return Err(WordFault::Long(MOST_INPUT_BYTES / 4));
-    }
-    if input.len() % 4 != 0 {
-        return Err(WordFault::Ragged(input.len() / 4));
-    }
-    Ok(())
-}
 
 // Whether the dossier's evidence shows a walk from its source to its target, or the first fault of the dossier.
 pub fn judge(input: &[u8]) -> Result<Verdict, DossierFault>
