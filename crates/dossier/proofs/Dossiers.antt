@@ -1,17 +1,15 @@
 -- A written dossier is cut into the parts that it was written of, and weighed.
-use mathlib.Core.Path.{_≡_, refl, sym, ap, subst, _∙_}
-use mathlib.Core.Bool.{cond}
+use mathlib.Core.Path.{_≡_, sym, ap, subst, _∙_}
 use mathlib.Core.List.{List, [], _∷_, _++_}
-use Prim.Native.Nat.{ℕ, _+_, _*_, _/_, _%_, _^_, _≤_, _<_}
+use Prim.Native.Nat.{ℕ, _+_, _/_, _%_, _≤_, _<_}
 use native.Mathlib.Omega.{arith}
 use lib.Dec.{eqb, ltb}
 use lib.ListN.{length}
-use Rattle.std.specs.shelf.Lists.{All}
 use Rattle.std.proofs.shelf.Lists.{length-append}
 use Rattle.std.proofs.shelf.Tests.{eq-eqb, ne-eqb, not-from-true, cond-true, cond-false, le-ltb}
 use Rattle.std.specs.declared.result.Result.the-variants.{Ok, Err}
 use Rattle.words.specs.declared.faults.WordFault.the-variants.{Ragged, Long}
-use Rattle.words.specs.Words.{words, kind}
+use Rattle.words.specs.Words.{words}
 use Rattle.words.specs.Faults.{raised}
 use Rattle.words.proofs.Inverses.{words-of-bytes}
 use Rattle.paper.specs.Arcs.{PlantDocument, plant-paper, plant-words, plant-of}
@@ -22,7 +20,7 @@ use Rattle.dossier.specs.declared.faults.DossierFault.the-variants.{Weighing}
 use Rattle.dossier.specs.declared.parts.Run.the-variants.{Before, Of}
 use Rattle.dossier.specs.Limits.{most-input-bytes}
 use Rattle.dossier.specs.Faults.{sized}
-use Rattle.dossier.specs.Parts.{goes-on, run-of, after, source-kind, target-kind, plant-part, source-part, target-part, evidence-part}
+use Rattle.dossier.specs.Parts.{goes-on, run-of, after, source-kind, target-kind, source-part, target-part, evidence-part}
 use Rattle.dossier.specs.Kinds.{Opens-otherwise}
 use Rattle.dossier.specs.Fillings.{fill-read}
 use Rattle.dossier.specs.Written.{Fillable, Writable, fill-words, fill-paper, dossier-paper, A-written-dossier-is-weighed}

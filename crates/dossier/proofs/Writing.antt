@@ -1,25 +1,24 @@
 -- Words that are written are cut off and read again.
-use mathlib.Core.Path.{_≡_, refl, sym, ap, subst, _∙_}
+use mathlib.Core.Path.{_≡_, refl, ap, _∙_}
 use mathlib.Core.Logic.{_≢_}
-use mathlib.Core.Bool.{Bool, true, false, cond}
-use mathlib.Core.List.{List, [], _∷_, _++_, map}
-use Prim.Native.Nat.{ℕ, suc, _+_, _*_, _/_, _%_, _^_, _≤_, _<_}
+use mathlib.Core.Bool.{Bool, true, false}
+use mathlib.Core.List.{List, [], _∷_, _++_}
+use Prim.Native.Nat.{ℕ, _+_, _*_, _/_, _%_, _^_, _≤_, _<_}
 use native.Mathlib.Omega.{arith}
 use lib.Dec.{eqb}
-use lib.ListN.{length, take, drop}
+use lib.ListN.{length}
 use Rattle.std.specs.shelf.Lists.{All, leading}
 use Rattle.std.proofs.shelf.Lists.{take-at, drop-at}
 use Rattle.std.proofs.shelf.Elements.{all-weaker, all-map}
-use Rattle.std.proofs.shelf.Tests.{eq-eqb, ne-eqb, not-from-false, not-from-true, cond-true, cond-false}
-use Rattle.std.proofs.shelf.Ways.{tells}
+use Rattle.std.proofs.shelf.Tests.{eq-eqb, ne-eqb, not-from-false, cond-true, cond-false}
 use Rattle.std.specs.declared.result.Result.{Result}
-use Rattle.std.specs.declared.result.Result.the-variants.{Ok, Err}
+use Rattle.std.specs.declared.result.Result.the-variants.{Ok}
 use Rattle.plant.specs.Limits.{most-tanks, most-valves, most-weight}
 use Rattle.words.specs.declared.faults.PaperFault.{PaperFault}
 use Rattle.words.specs.Words.{words, bytes, word, kind, field}
 use Rattle.words.specs.Faults.{onward}
 use Rattle.words.specs.Inverse.{Words}
-use Rattle.paper.specs.Arcs.{Arc, PlantDocument, PlantFormed, ArcFits, arc-kind, arc-word, plant-head, plant-words}
+use Rattle.paper.specs.Arcs.{Arc, PlantDocument, PlantFormed, ArcFits, arc-kind, arc-word, plant-words}
 use Rattle.dossier.specs.declared.parts.Run.{Run}
 use Rattle.dossier.specs.declared.parts.Run.the-variants.{Before, Of}
 use Rattle.dossier.specs.Parts.{goes-on, run-of, after}

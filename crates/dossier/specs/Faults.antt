@@ -23,7 +23,7 @@ of-dossier (Source e) = of-paper e
 of-dossier (Target e) = of-paper e
 of-dossier (Weighing e) = of-weighing e
 
--- the size comes first, at the place of the limit in words; then the length has to be whole words
+-- the size comes first: too long a dossier is refused at the limit, counted in words; then the length has to be whole words
 abbrev pub sized : List ℕ → Result (Unit {0}) WordFault
 sized bs =
     cond (ltb most-input-bytes (length bs)) (Err (Long (most-input-bytes / 4))) (

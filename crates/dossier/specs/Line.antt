@@ -11,11 +11,11 @@ use Rattle.weighing.specs.declared.faults.Verdict.{Verdict}
 use Rattle.weighing.specs.declared.faults.Verdict.the-variants.{Joined}
 use Rattle.dossier.specs.declared.faults.DossierFault.{DossierFault}
 use Rattle.dossier.specs.declared.answer.Answer.{Answer}
-use Rattle.dossier.specs.declared.answer.Answer.the-variants.{Shown, Refused}
+use Rattle.dossier.specs.declared.answer.Answer.the-variants.{Accepted, Refused}
 use Rattle.dossier.specs.Faults.{of-dossier}
 
 abbrev pub answer-of : Result Verdict DossierFault → Answer
-answer-of (Ok v) = Shown v
+answer-of (Ok v) = Accepted v
 answer-of (Err e) = Refused (of-dossier e)
 
 abbrev pub part-name : Part → List ℕ
@@ -25,7 +25,7 @@ part-name Paper = codes "PAPER"
 part-name Weighing = codes "WEIGHING"
 
 abbrev pub text-of : Answer → List ℕ
-text-of (Shown Joined) = codes "JOINED"
+text-of (Accepted Joined) = codes "JOINED"
 text-of (Refused r) = codes "REFUSED " ++ (decimal (r .number) ++ (codes " AT " ++ (decimal (r .place) ++ (codes " IN " ++ part-name (r .part)))))
 
 -- the text and a newline

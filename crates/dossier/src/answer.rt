@@ -21,7 +21,7 @@ use words::RefusalPartialEq;
 // What the evidence shows, or the refusal of the dossier.
 #[derive(Clone, Copy, Debug, PartialEq)]
 pub enum Answer {
-    Shown(Verdict),
+    Accepted(Verdict),
     Refused(Refusal),
 }
 
@@ -30,7 +30,7 @@ impl Answer {
         ensures { λ r. ⌜ r ≡ answer-of judgement ⌝ }
     {
         match judgement {
-            Ok(verdict) => Answer::Shown(verdict),
+            Ok(verdict) => Answer::Accepted(verdict),
             Err(fault) => Answer::Refused(fault.refusal()),
         }
     }
@@ -53,7 +53,7 @@ pub impl fmt::Display for Answer as AnswerDisplay {
 
     fn fmt<W: fmt::Write>(&self, f: &mut fmt::Formatter<W>) -> fmt::Result {
         match self {
-            Answer::Shown(Verdict::Joined) => write!(f, "JOINED"),
+            Answer::Accepted(Verdict::Joined) => write!(f, "JOINED"),
             Answer::Refused(refusal) => {
                 let number = refusal.number;
                 let place = refusal.place;

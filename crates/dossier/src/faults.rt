@@ -54,7 +54,7 @@ impl DossierFault {
     }
 }
 
-// Whether the bytes are not too many, and whole words. A dossier that is too long is refused at its limit, wherever it ends.
+// Whether the bytes are not too many, and are whole words. Too long a dossier is refused at the limit, however long it is.
 pub fn check_size(input: &[u8]) -> Result<(), WordFault>
     ensures { λ r. ⌜ r ≡ sized (now (input .entry)) ⌝ }
 {

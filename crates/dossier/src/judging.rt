@@ -33,6 +33,7 @@ fn judge_in_turn(input: &[u8]) -> Result<Verdict, DossierFault>
         Ok(filling) => filling,
         Err(fault) => return Err(DossierFault::Target(fault)),
     };
+    // A paper plant refuses no paper, so the faults of this one were asked for before.
     let plant = PaperPlant::new(parts.plant);
     let verdict = weigh(&plant, source.amounts(), target.amounts(), parts.evidence)?;
     Ok(verdict)

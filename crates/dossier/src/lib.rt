@@ -7,6 +7,8 @@ pub mod judging;
 pub mod laws;
 pub mod limits;
 pub mod parts;
+#[cfg(test)]
+mod tests;
 
 pub use answer::Answer;
 pub use answer::AnswerDisplay;
