@@ -22,6 +22,10 @@ use Rattle.weighing.specs.declared.faults.Verdict.{Verdict}
 use Rattle.weighing.specs.declared.faults.Verdict.the-variants.{Joined}
 use Rattle.weighing.specs.Weighing.{weighs}
 use Rattle.weighing.proofs.Accepting.{raised-ok, only-accepted, accepted-walk}
+use lib.Chars.{codes}
+use Rattle.std.specs.Vec.{made}
+use Rattle.dossier.specs.declared.faults.DossierFault.{DossierFault}
+use Rattle.dossier.specs.Line.{line-of}
 use Rattle.dossier.specs.declared.faults.DossierFault.the-variants.{Input, Plant, Source, Target, Weighing}
 use Rattle.dossier.specs.Faults.{sized}
 use Rattle.std.specs.shelf.Lists.{leading}
@@ -68,3 +72,13 @@ module _ (bs : List ℕ) (small : Bytes bs) where
         };
         walk = accepted-walk (plant-of (two .0)) bounded (three .0) (four .0) (evidence-part bs) (only-accepted (plant-of (two .0)) bounded (three .0) (four .0) (evidence-part bs) evidence-small joined) .walk;
       }
+
+-- only the verdict is printed so
+pub says-joined : (r : Result Verdict DossierFault) → line-of r ≡ codes "JOINED\n" → r ≡ Ok Joined
+says-joined (Ok Joined) e = refl
+says-joined (Err f) e = absurd (let z : _≡_ {A = ℕ} 82 74 = cc in omega arith)
+
+-- what holds of a value that was made
+pub made-so : {X Y : Type 0} (r : Result X Y) (P Q : X → Type 0) → ((x : X) → P x → Q x) → made r P → made r Q
+made-so (Ok x) P Q f h = f x h
+made-so (Err y) P Q f h = tt

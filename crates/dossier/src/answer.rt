@@ -1,9 +1,11 @@
 // The answer to a dossier, and the line that is printed.
 ghost use mathlib.Core.Path.{_≡_};
+ghost use lib.Chars.{codes};
 ghost use Rattle.std.specs.Of.String.{string-bytes};
 ghost use Rattle.std.specs.Vec.{made};
 ghost use Rattle.std.specs.declared.option.Option.the-variants.{Some};
 ghost use Rattle.dossier.specs.Judging.{judged};
+ghost use Rattle.dossier.specs.Shown.{Has-walk};
 ghost use Rattle.dossier.specs.Line.{answer-of, part-name, text-of, line-of};
 use crate::faults::DossierFault;
 use crate::judging::judge;
@@ -64,10 +66,19 @@ pub impl fmt::Display for Answer as AnswerDisplay {
     }
 }
 
-// The line that a dossier is answered with, its newline included.
-pub fn line(heap: Global, input: &[u8]) -> Result<String, AllocError>
+// The text of the answer and a newline.
+fn written(heap: Global, input: &[u8]) -> Result<String, AllocError>
     ensures { λ r. ⌜ made r (λ s. string-bytes s ≡ line-of (judged (now (input .entry)))) ⌝ }
 {
     let answer = Answer::of(judge(input));
     format!(heap, "{answer}\n")
+}
+
+// The line that a dossier is answered with, its newline included. It says JOINED only where the plant has a walk from the source
+// to the target.
+pub fn line(heap: Global, input: &[u8]) -> Result<String, AllocError>
+    ensures joined { λ r. ⌜ made r (λ s. string-bytes s ≡ codes "JOINED\n" → Has-walk (now (input .entry))) ⌝ }
+    ensures answer { λ r. ⌜ made r (λ s. string-bytes s ≡ line-of (judged (now (input .entry)))) ⌝ }
+{
+    written(heap, input)
 }
