@@ -1,3 +1,4 @@
+pub mod Agreements
 pub mod Digits
 pub mod Newlines
 pub mod Tabs

@@ -1,2 +1,4 @@
+pub mod Agreement
 pub mod Hex
+pub mod Outcomes
 pub mod Table

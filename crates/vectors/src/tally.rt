@@ -27,7 +27,7 @@ impl Tally {
     }
 
     // One dossier more.
-    pub fn count(&mut self, agrees: bool)
+    pub(crate) fn count(&mut self, agrees: bool)
         requires { ⌜ now self .dossiers + 1 < 2 ^ 64 ⌝ }
         ensures dossiers { λ _. ⌜ now (self .exit) .dossiers ≡ now (self .entry) .dossiers + 1 ⌝ }
         ensures agree { λ _. ⌜ now (self .exit) .agree ≡ now (self .entry) .agree + cond agrees 1 0 ⌝ }

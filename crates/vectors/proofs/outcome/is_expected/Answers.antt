@@ -2,7 +2,7 @@ use native.Mathlib.Omega.{arith}
 use Rattle.std.specs.declared.option.Option.the-variants.{Some, None}
 use Rattle.std.proofs.shelf.Patterns.{strip-suffix-char}
 use Rattle.vectors.proofs.Newlines.{ended-same, never-ended}
-use Rattle.vectors.proofs.is_expected.Needs as need
+use Rattle.vectors.proofs.outcome.is_expected.Needs as need
 
 pub returns-in-Some : need.returns-in-Some
 returns-in-Some c =
