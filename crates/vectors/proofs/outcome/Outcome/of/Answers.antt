@@ -29,7 +29,7 @@ told c =
     (c .as-bytes .ensures .value)
     some
     (c .as-slice .ensures .value)
-    (c .in-Continue-answer .ensures tt)
+    (c .in-Continue-answer .ensures tt .answer)
     (c .as-str .ensures .value)
     (c .is-expected .ensures)
 
