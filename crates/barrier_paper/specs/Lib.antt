@@ -1,0 +1,4 @@
+pub mod Limits
+pub mod Document
+pub mod Form
+pub mod Inverse

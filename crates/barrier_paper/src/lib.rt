@@ -1,0 +1,3 @@
+// The form of barrier papers, and their cases, lines and steps as parts of the paper.
+pub mod form;
+pub mod limits;
