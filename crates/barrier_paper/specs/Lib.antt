@@ -1,4 +1,5 @@
 pub mod Limits
 pub mod Document
 pub mod Form
+pub mod Windows
 pub mod Inverse

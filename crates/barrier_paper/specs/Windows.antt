@@ -1,0 +1,41 @@
+-- Parts of a barrier paper, by its words: a case is handed out as the words from its case word up to the next case or step,
+-- a line as those from its line word up to the next line.
+use mathlib.Core.Bool.{Bool, cond, _||_}
+use mathlib.Core.List.{List, [], _∷_}
+use Prim.Native.Nat.{ℕ, zero, suc}
+use lib.Dec.{eqb}
+use lib.IntN.{ℤ, pos, _+ℤ_}
+use Rattle.words.specs.Words.{kind, field, rest}
+use Rattle.barrier_paper.specs.Document.{Weight, signed, weight-said}
+
+-- the words from word number n, from 0, of kind k on
+abbrev pub from-nth : ℕ → ℕ → List ℕ → List ℕ
+from-nth k n [] = []
+from-nth k zero (w ∷ ws) = cond (eqb (kind w) k) (w ∷ ws) (from-nth k zero ws)
+from-nth k (suc n) (w ∷ ws) = cond (eqb (kind w) k) (from-nth k n ws) (from-nth k (suc n) ws)
+
+-- the words before the first that ends a part: of kind k, or a step
+abbrev pub before : ℕ → List ℕ → List ℕ
+before k [] = []
+before k (w ∷ ws) = cond (eqb (kind w) k || eqb (kind w) 10) [] (w ∷ before k ws)
+
+-- a part that begins with a word of kind k: that word, and what follows it up to the next of its kind or a step
+abbrev pub part : ℕ → List ℕ → List ℕ
+part k [] = []
+part k (w ∷ ws) = w ∷ before k ws
+
+-- case i of a paper, and line l of a case
+abbrev pub case-part : ℕ → List ℕ → List ℕ
+case-part i ws = part 6 (from-nth 6 i ws)
+
+abbrev pub line-part : ℕ → List ℕ → List ℕ
+line-part l ws = part 7 (from-nth 7 l ws)
+
+-- the steps and their matches
+abbrev pub steps-part : List ℕ → List ℕ
+steps-part ws = from-nth 10 zero ws
+
+-- what the weight words of kind k in a part give tank r
+abbrev pub part-weight : ℕ → List ℕ → ℕ → ℤ
+part-weight k [] r = pos 0
+part-weight k (w ∷ ws) r = cond (eqb (kind w) k) (cond (eqb (weight-said w .tank) r) (signed (weight-said w)) (pos 0)) (pos 0) +ℤ part-weight k ws r

@@ -1,0 +1,2 @@
+// A line's weights as numbers.
+pub mod line;
