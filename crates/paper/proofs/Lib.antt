@@ -7,3 +7,4 @@ pub mod TotalsSteps
 pub mod TotalsExact
 pub mod Searching
 pub mod Making
+pub mod Firsts

@@ -9,3 +9,4 @@ pub mod OfPlant
 pub mod Totals
 pub mod OfTotals
 pub mod Inverse
+pub mod First

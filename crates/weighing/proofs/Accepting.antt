@@ -74,7 +74,7 @@ fillings-asked tanks A B a b =
     ∙ ap (λ o. refusing o (Amount Target) (Ok tt)) (small-none B (b .small))))
 
 -- a fault of a lower part is none of the upper answer
-raised-ok : {X E F : Type 0} (up : E → F) (r : Result X E) (x : X) → raised up r ≡ Ok x → r ≡ Ok x
+pub raised-ok : {X E F : Type 0} (up : E → F) (r : Result X E) (x : X) → raised up r ≡ Ok x → r ≡ Ok x
 raised-ok up (Ok y) x p = let z : y ≡ x = cc in ap Ok z
 raised-ok up (Err e) x p = absurd (let z : _≡_ {A = ℕ} 0 1 = cc in omega arith)
 
