@@ -1,2 +1,5 @@
 // A line's weights as numbers.
+pub mod amounts;
+pub mod columns;
 pub mod line;
+pub mod valve;
