@@ -1,1 +1,3 @@
 pub mod Filling
+pub mod Adding
+pub mod Comparing

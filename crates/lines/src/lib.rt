@@ -2,4 +2,5 @@
 pub mod amounts;
 pub mod columns;
 pub mod line;
+pub mod sides;
 pub mod valve;
