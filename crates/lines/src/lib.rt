@@ -2,5 +2,6 @@
 pub mod amounts;
 pub mod columns;
 pub mod line;
+pub mod matches;
 pub mod sides;
 pub mod valve;
