@@ -1,7 +1,7 @@
 // What each tank holds in a filling.
-ghost use Prim.Native.Nat.{ℕ, _≤_, min};
+ghost use Prim.Native.Nat.{ℕ, _<_, _≤_, min};
 ghost use lib.ListN.{getD};
-ghost use Rattle.plant.specs.Limits.{most-amount};
+ghost use Rattle.plant.specs.Limits.{most-amount, most-tanks};
 ghost use Rattle.plant.specs.Walk.{held};
 ghost use Rattle.lines.specs.Tables.{Tabulates};
 use plant::limits::MOST_AMOUNT;
@@ -15,9 +15,11 @@ pub struct Amounts {
 }
 
 impl Amounts {
-    // A tank that the filling does not list is empty. An amount above the limit counts as the limit.
+    // A tank that the filling does not list is empty. An amount above the limit counts as the limit,
+    // so that a filling that keeps the limits is taken over as it is.
     pub fn of_filling(filling: &[u32]) -> Amounts
-        ensures { λ x. ⌜ Tabulates (x .amounts) (λ r. min (held (now (filling .entry)) r) most-amount) ⌝ }
+        ensures all { λ x. ⌜ Tabulates (x .amounts) (λ r. min (held (now (filling .entry)) r) most-amount) ⌝ }
+        ensures exact { λ x. ⌜ (((r : ℕ) → r < most-tanks → held (now (filling .entry)) r ≤ most-amount) → Tabulates (x .amounts) (held (now (filling .entry)))) ⌝ }
     {
         let mut amounts = [0; MOST_TANKS];
         for tank in 0..filling.len().min(MOST_TANKS) {

@@ -22,7 +22,7 @@ pub enum Way {
     Backward,
 }
 
-// What a match multiplies the line left by, and the line reached.
+// What a match multiplies by: p goes with the line of the case left, q with the line of the case reached.
 #[derive(Clone, Copy, Debug, PartialEq)]
 pub struct Factors {
     pub p: u16,
@@ -38,7 +38,8 @@ fn difference(a: u16, x: i64, b: u16, y: i64) -> i64
     a as i64 * x - b as i64 * y
 }
 
-// Whether both numbers of a tank are at least 0.
+// Whether both numbers of a tank are at least 0: its left weight must not grow from p times one line to q times the other,
+// and its right weight must not fall.
 fn is_tank_good(from: &LineWeights, to: &LineWeights, factors: Factors, tank: usize) -> bool
     requires { ⌜ tank < most-tanks ⌝ }
     ensures { λ r. ⌜ r ≡ tank-good? (line-meant (now (from .entry))) (line-meant (now (to .entry))) (factors .p) (factors .q) tank ⌝ }
@@ -49,6 +50,7 @@ fn is_tank_good(from: &LineWeights, to: &LineWeights, factors: Factors, tank: us
     drop >= 0 && growth >= 0
 }
 
+// The same of each of the first tanks.
 fn are_tanks_good(from: &LineWeights, to: &LineWeights, factors: Factors, tanks: usize) -> bool
     requires { ⌜ tanks ≤ most-tanks ⌝ }
     ensures { λ r. ⌜ r ≡ all-below tanks (tank-good? (line-meant (now (from .entry))) (line-meant (now (to .entry))) (factors .p) (factors .q)) ⌝ }
@@ -61,8 +63,14 @@ fn are_tanks_good(from: &LineWeights, to: &LineWeights, factors: Factors, tanks:
     true
 }
 
-// The flow number of a valve.
-pub fn flow_number(valve: &ValveWeights, way: Way, from: &LineWeights, to: &LineWeights, factors: Factors) -> i64
+// The flow number of a valve: what it gives, less what it takes, by the weights that a firing changes in each direction.
+pub fn flow_number(
+    valve: &ValveWeights,
+    way: Way,
+    from: &LineWeights,
+    to: &LineWeights,
+    factors: Factors,
+) -> i64
     ensures { λ r. ⌜ ((N : Net) (t : ℕ) → Read-from (now (valve .entry)) N t → r ≡ flow N (way-meant way) t (line-meant (now (from .entry))) (line-meant (now (to .entry))) (factors .p) (factors .q)) ⌝ }
 {
     let Factors { p, q } = factors;
@@ -80,20 +88,26 @@ pub fn flow_number(valve: &ValveWeights, way: Way, from: &LineWeights, to: &Line
     }
 }
 
-// Whether the line reached holds as sharply as it says.
-fn is_marked(flow: i64, from: &LineWeights, to: &LineWeights, factors: Factors) -> bool
-    ensures { λ r. ⌜ r ≡ marked? flow (line-meant (now (from .entry))) (line-meant (now (to .entry))) (factors .p) (factors .q) ⌝ }
+// Whether one of three marks says that the line reached holds as sharply as it is written.
+fn is_marked(flowing: i64, from: &LineWeights, to: &LineWeights, factors: Factors) -> bool
+    ensures { λ r. ⌜ r ≡ marked? flowing (line-meant (now (from .entry))) (line-meant (now (to .entry))) (factors .p) (factors .q) ⌝ }
 {
-    flow > 0 || from.strict && factors.p >= 1 || !to.strict && factors.q >= 1
+    flowing > 0 || from.strict && factors.p >= 1 || !to.strict && factors.q >= 1
 }
 
-// Whether a match is good: no number of a tank and no flow number is below 0, and a mark says that the line reached holds.
-pub fn is_good(valve: &ValveWeights, way: Way, from: &LineWeights, to: &LineWeights, factors: Factors) -> bool
+// Whether a match is good: the numbers of the tanks and the flow number are at least 0, and a mark stands.
+pub fn is_good(
+    valve: &ValveWeights,
+    way: Way,
+    from: &LineWeights,
+    to: &LineWeights,
+    factors: Factors,
+) -> bool
     ensures { λ r. ⌜ ((N : Net) (t : ℕ) → Read-from (now (valve .entry)) N t → r ≡ good? N (way-meant way) t (line-meant (now (from .entry))) (line-meant (now (to .entry))) (factors .p) (factors .q)) ⌝ }
 {
     if !are_tanks_good(from, to, factors, valve.tanks) {
         return false;
     }
-    let flow = flow_number(valve, way, from, to, factors);
-    flow >= 0 && is_marked(flow, from, to, factors)
+    let flowing = flow_number(valve, way, from, to, factors);
+    flowing >= 0 && is_marked(flowing, from, to, factors)
 }
