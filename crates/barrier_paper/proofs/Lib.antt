@@ -1,1 +1,2 @@
-
+pub mod WordParts
+pub mod Taking

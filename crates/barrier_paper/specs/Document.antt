@@ -167,13 +167,13 @@ nothing-said = record { lefts = []; rights = []; lines = []; cases = []; matches
 -- one more word before what is said so far
 abbrev pub say : ℕ → Said → Said
 say w d =
-  cond (eqb (kind w) 6) (record { lefts = []; rights = []; lines = []; cases = d .lines ∷ d .cases; matches = d .matches; steps = d .steps }) (
-  cond (eqb (kind w) 7) (record { lefts = []; rights = []; lines = record { strict = eqb (field w 0 1) 1; lefts = d .lefts; rights = d .rights } ∷ d .lines; cases = d .cases; matches = d .matches; steps = d .steps }) (
-  cond (eqb (kind w) 8) (record { lefts = weight-said w ∷ d .lefts; rights = d .rights; lines = d .lines; cases = d .cases; matches = d .matches; steps = d .steps }) (
-  cond (eqb (kind w) 9) (record { lefts = d .lefts; rights = weight-said w ∷ d .rights; lines = d .lines; cases = d .cases; matches = d .matches; steps = d .steps }) (
-  cond (eqb (kind w) 10) (record { lefts = d .lefts; rights = d .rights; lines = d .lines; cases = d .cases; matches = []; steps = step-said w (d .matches) ∷ d .steps }) (
-  cond (eqb (kind w) 11) (record { lefts = d .lefts; rights = d .rights; lines = d .lines; cases = d .cases; matches = match-said w ∷ d .matches; steps = d .steps })
-  d)))))
+    cond (eqb (kind w) 6) (record { lefts = []; rights = []; lines = []; cases = d .lines ∷ d .cases; matches = d .matches; steps = d .steps }) (
+    cond (eqb (kind w) 7) (record { lefts = []; rights = []; lines = record { strict = eqb (field w 0 1) 1; lefts = d .lefts; rights = d .rights } ∷ d .lines; cases = d .cases; matches = d .matches; steps = d .steps }) (
+    cond (eqb (kind w) 8) (record { lefts = weight-said w ∷ d .lefts; rights = d .rights; lines = d .lines; cases = d .cases; matches = d .matches; steps = d .steps }) (
+    cond (eqb (kind w) 9) (record { lefts = d .lefts; rights = weight-said w ∷ d .rights; lines = d .lines; cases = d .cases; matches = d .matches; steps = d .steps }) (
+    cond (eqb (kind w) 10) (record { lefts = d .lefts; rights = d .rights; lines = d .lines; cases = d .cases; matches = []; steps = step-said w (d .matches) ∷ d .steps }) (
+    cond (eqb (kind w) 11) (record { lefts = d .lefts; rights = d .rights; lines = d .lines; cases = d .cases; matches = match-said w ∷ d .matches; steps = d .steps })
+    d)))))
 
 abbrev pub said : List ℕ → Said
 said [] = nothing-said
