@@ -1,2 +1,4 @@
 pub mod WordParts
 pub mod Taking
+pub mod States
+pub mod Fronts

@@ -268,3 +268,37 @@ takes ph s at w t (a-step i h e) =
 takes ph s at w t (a-match i h e) =
     let good : spec.match (due ph) (named ph) (least-step ph) s at w ≡ Ok (after-match ph s) = grind (arith, tells) in
     match-comes ph s at w i (h .kind-is) ∙ good ∙ ap Ok (sym e)
+
+-- ---- weights come in a case, the left ones first, and a step where no match is due
+
+pub left-in-case : (ph : Phase) (least : ℕ) → lefts-from ph ≡ Some least → InCase ph × (rights-from ph ≡ Some 0)
+left-in-case Start least i = unlike least i
+left-in-case Case least i = unlike least i
+left-in-case (Left least′) least i = (tt, refl)
+left-in-case (Right least′) least i = unlike least i
+left-in-case (Steps least′) least i = unlike least i
+left-in-case (Matches count lines least′) least i = unlike least i
+
+pub right-in-case : (ph : Phase) (least : ℕ) → rights-from ph ≡ Some least → InCase ph
+right-in-case Start least i = unlike least i
+right-in-case Case least i = unlike least i
+right-in-case (Left least′) least i = tt
+right-in-case (Right least′) least i = tt
+right-in-case (Steps least′) least i = unlike least i
+right-in-case (Matches count lines least′) least i = unlike least i
+
+pub between-none : (ph : Phase) → Between ph → due ph ≡ 0
+between-none Start b = refl
+between-none Case b = refl
+between-none (Left least) b = refl
+between-none (Right least) b = refl
+between-none (Steps least) b = refl
+between-none (Matches count lines least) b = elim b [ ]
+
+pub none-between : (ph : Phase) → Begun ph → due ph ≡ 0 → Between ph
+none-between Start b e = b
+none-between Case b e = tt
+none-between (Left least) b e = tt
+none-between (Right least) b e = tt
+none-between (Steps least) b e = tt
+none-between (Matches count lines least) b e = absurd (omega arith)
