@@ -21,7 +21,7 @@ use Rattle.barrier_paper.specs.Document.{Weight, WeightFits, RisingWeights, Li
 use Rattle.barrier_paper.specs.Form.{in-phase, waiting}
 use Rattle.barrier_paper.proofs.WordParts.{CaseWord, LineWord, WeightWord, StepWord, MatchWord, weight-fits, match-fits, key-said}
 use Rattle.barrier_paper.proofs.Taking.{InCase, lefts-from, rights-from, due, named, Between, least-step, after-case, after-line, after-step, after-match, Taken, a-case, a-line, a-left, a-right, a-step, a-match, left-in-case, right-in-case, between-none}
-use Rattle.barrier_paper.proofs.States.{Sound, waits}
+use Rattle.barrier_paper.proofs.States.{Sound, room, waits}
 
 -- weights, where they may come, of tanks that rise from what is given; else none
 abbrev pub Weights : ℕ → Option ℕ → List Weight → Type 0
@@ -89,13 +89,13 @@ waits-tail count lines least ms ss =
     waits count lines least (λ ph. Tail (due ph) (named ph) (least-step ph) ms ss → Tail count lines least ms ss) (λ z t. record { matched = t .matched ∙ sym z; matches-fit = none-fit 0 lines ms (t .matched) (t .matches-fit); steps-rise = t .steps-rise }) (λ _ t. t)
 
 -- one more case
-case-counts : (table : List ℕ) (last n : ℕ) (ns : List ℕ) → last < length table → getD table (last + 1) 0 ≡ 0 → take (last + 1) table ++ ((getD table (last + 1) 0 + n) ∷ ns) ≡ take last table ++ ((getD table last 0 + 0) ∷ n ∷ ns)
+pub case-counts : (table : List ℕ) (last n : ℕ) (ns : List ℕ) → last < length table → getD table (last + 1) 0 ≡ 0 → take (last + 1) table ++ ((getD table (last + 1) 0 + n) ∷ ns) ≡ take last table ++ ((getD table last 0 + 0) ∷ n ∷ ns)
 case-counts table last n ns h z =
     let e : getD table (last + 1) 0 + n ≡ n = omega arith in
     rw (e, take-more table last 0 h, append-assoc, add-zero)
 
 -- one more line
-line-counts : (table : List ℕ) (last n : ℕ) (ns : List ℕ) → last < length table → let x = getD table last 0 in let more = set table last (x + 1) in take last more ++ ((getD more last 0 + n) ∷ ns) ≡ take last table ++ ((x + suc n) ∷ ns)
+pub line-counts : (table : List ℕ) (last n : ℕ) (ns : List ℕ) → last < length table → let x = getD table last 0 in let more = set table last (x + 1) in take last more ++ ((getD more last 0 + n) ∷ ns) ≡ take last table ++ ((x + suc n) ∷ ns)
 line-counts table last n ns h =
     let e : getD table last 0 + 1 + n ≡ getD table last 0 + suc n = omega arith in
     rw (take-set, getD-set-same table last (getD table last 0 + 1) 0 h, e)
@@ -117,6 +117,9 @@ bare counts s d count lines least =
   where
     rest : {ph : Phase} → Front counts ph s d → ⊥ ⊎ ((d .lines ≡ []) × (d .cases ≡ [])) → d .lefts ≡ [] → d .rights ≡ [] → (d .lefts ≡ []) × (d .rights ≡ []) × (d .lines ≡ []) × (d .cases ≡ [])
     rest f i l r = ⊎-elim (λ (z : ⊥). absurd z) (λ (e : (d .lines ≡ []) × (d .cases ≡ [])). (l, r, e .0, e .1)) i
+
+pub length-counts : (table : List ℕ) (last : ℕ) → last < length table → length (take (last + 1) table) ≡ last + 1
+length-counts table last h = length-take-le (last + 1) table (omega arith)
 
 -- ---- one more word before a front
 
@@ -142,15 +145,12 @@ line-more counts tanks last table l lines cases h f b = record {
 }
 
 module _ (counts : List ℕ) (ph : Phase) (s : BarrierForm) (sound : Sound s) (w : ℕ) (d : Said) where
-  room : s .last < length (s .lines)
-  room = omega (arith, sound .width, sound .last-there)
-
   front-case : InCase ph → CaseWord w → Front counts Case (after-case s) d → Front counts ph s (say w d)
   front-case i h f = rw (h .kind-is) (record {
     lefts-fit = no-weights (s .tanks) (lefts-from ph);
     rights-fit = no-weights (s .tanks) (rights-from ph);
     in-case = inl i;
-    body = case-more counts (s .tanks) (s .last) (s .lines) (d .lines) (d .cases) room (sound .few (s .last)) (sound .blank (s .last + 1) (omega arith)) (f .body);
+    body = case-more counts (s .tanks) (s .last) (s .lines) (d .lines) (d .cases) (room s sound) (sound .few (s .last)) (sound .blank (s .last + 1) (omega arith)) (f .body);
     tail = quiet ph (d .matches) (d .steps) i (f .tail);
     steps-fit = f .steps-fit;
   })
@@ -160,7 +160,7 @@ module _ (counts : List ℕ) (ph : Phase) (s : BarrierForm) (sound : Sound s) (w
     lefts-fit = no-weights (s .tanks) (lefts-from ph);
     rights-fit = no-weights (s .tanks) (rights-from ph);
     in-case = inl i;
-    body = line-more counts (s .tanks) (s .last) (s .lines) _ (d .lines) (d .cases) room (record { lefts-fit = f .lefts-fit .0; lefts-rise = f .lefts-fit .1; rights-fit = f .rights-fit .0; rights-rise = f .rights-fit .1 }) (f .body);
+    body = line-more counts (s .tanks) (s .last) (s .lines) _ (d .lines) (d .cases) (room s sound) (record { lefts-fit = f .lefts-fit .0; lefts-rise = f .lefts-fit .1; rights-fit = f .rights-fit .0; rights-rise = f .rights-fit .1 }) (f .body);
     tail = quiet ph (d .matches) (d .steps) i (f .tail);
     steps-fit = f .steps-fit;
   })
@@ -195,8 +195,8 @@ module _ (counts : List ℕ) (ph : Phase) (s : BarrierForm) (sound : Sound s) (w
       let lines = getD (s .lines) (field w 23 4) 0 in
       let no = bare counts (after-step s w) d count lines (field w 17 11 + 1) f in
       let t = waits-tail count lines (field w 17 11 + 1) (d .matches) (d .steps) (f .tail) in
-      let e = counts-end (f .body) room (no .2) (no .3) in
-      let n : length counts ≡ s .last + 1 = ap length e ∙ length-take-le (s .last + 1) (s .lines) (omega (arith, room)) in
+      let e = counts-end (f .body) (room s sound) (no .2) (no .3) in
+      let n : length counts ≡ s .last + 1 = ap length e ∙ length-counts (s .lines) (s .last) (room s sound) in
       let key = key-said w (d .matches) in
       rw (h .kind-is) (record {
         lefts-fit = rw (no .0) (no-weights (s .tanks) (lefts-from ph));

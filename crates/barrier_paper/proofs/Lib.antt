@@ -2,3 +2,5 @@ pub mod WordParts
 pub mod Taking
 pub mod States
 pub mod Fronts
+pub mod FrontWords
+pub mod Peeling

@@ -25,6 +25,9 @@ pub record Sound (s : BarrierForm) : Type 0 where
   pub few : (i : ℕ) → getD (s .lines) i 0 ≤ most-lines
   pub blank : (i : ℕ) → s .last < i → getD (s .lines) i 0 ≡ 0
 
+pub room : (s : BarrierForm) → Sound s → s .last < length (s .lines)
+room s h = omega (arith, h .width, h .last-there)
+
 -- a phase that waits for so many matches is one of two
 pub waits : (count lines least : ℕ) (P : Phase → Type 0) → (count ≡ 0 → P (Steps least)) → (1 ≤ count → P (Matches count lines least)) → P (waiting count lines least)
 waits count lines least P none some =
@@ -58,7 +61,7 @@ sound-kept s w t (a-line i l few e) h = rw e (record {
   few-named = omega arith;
   width = length-set (s .lines) (s .last) _ ∙ h .width;
   last-there = h .last-there;
-  few = λ i. set-few (s .lines) (s .last) i _ (h .few i) (omega arith) (omega (arith, h .width, h .last-there));
+  few = λ i. set-few (s .lines) (s .last) i _ (h .few i) (omega arith) (room s h);
   blank = λ i k. getD-set-other (s .lines) (s .last) i _ 0 (omega arith) ∙ h .blank i k;
 })
 sound-kept s w t (a-left least i x e) h = rw e (in-phase-sound s _ h tt (omega arith))
