@@ -18,7 +18,7 @@ abbrev pub front-words : Said → List ℕ
 front-words d = map (weight-word 8) (d .lefts) ++ (map (weight-word 9) (d .rights) ++ (joined line-words (d .lines) ++ (joined case-words (d .cases) ++ (map match-word (d .matches) ++ joined step-words (d .steps)))))
 
 module _ (counts : List ℕ) (s : BarrierForm) (w : ℕ) (d : Said) where
-  words-case : CaseWord w → Front counts Case (after-case s) d → front-words (say w d) ≡ w ∷ front-words d
+  pub words-case : CaseWord w → Front counts Case s d → front-words (say w d) ≡ w ∷ front-words d
   words-case h f = rw (h .kind-is, f .lefts-fit, f .rights-fit, append-assoc, ← case-written w h)
 
   words-line : LineWord w → front-words (say w d) ≡ w ∷ front-words d
@@ -41,7 +41,7 @@ module _ (counts : List ℕ) (s : BarrierForm) (w : ℕ) (d : Said) where
       rw (h .kind-is, no .0, no .1, no .2, no .3, ← match-written lines w h)
 
 pub words-more : (counts : List ℕ) (s : BarrierForm) (w : ℕ) (t : BarrierForm) (d : Said) → Taken (s .phase) s w t → Front counts (t .phase) t d → front-words (say w d) ≡ w ∷ front-words d
-words-more counts s w t d (a-case i h few e) f = words-case counts s w d h (rw e at f)
+words-more counts s w t d (a-case i h few e) f = words-case counts (after-case s) w d h (rw e at f)
 words-more counts s w t d (a-line i h few e) f = words-line counts s w d h
 words-more counts s w t d (a-left least i h e) f = words-left counts s w d (s .tanks) least h
 words-more counts s w t d (a-right least i h e) f = words-right counts s w d (s .tanks) least h (rw e at f)

@@ -204,14 +204,17 @@ module _ (counts : List ℕ) (ph : Phase) (s : BarrierForm) (sound : Sound s) (w
         in-case = inr (no .2, no .3);
         body = f .body;
         tail = record { matched = sym (between-none ph b); matches-fit = tt; steps-rise = (rw key (h .rises), rw key (rw add-one at (t .steps-rise))) };
-        steps-fit = (record {
-          from-there = omega (arith, h .from-there);
-          valve-there = h .valve-there;
-          valve-small = omega arith;
-          to-there = omega (arith, h .to-there);
-          matched = rw (e, count-at (s .lines) (s .last) (field w 13 4) (h .to-there)) (t .matched);
-          matches-fit = rw (e, count-at (s .lines) (s .last) (field w 23 4) (h .from-there)) (t .matches-fit);
-        }, f .steps-fit);
+        steps-fit = (
+          record {
+            from-there = omega (arith, h .from-there);
+            valve-there = h .valve-there;
+            valve-small = omega arith;
+            to-there = omega (arith, h .to-there);
+            matched = rw (e, count-at (s .lines) (s .last) (field w 13 4) (h .to-there)) (t .matched);
+            matches-fit = rw (e, count-at (s .lines) (s .last) (field w 23 4) (h .from-there)) (t .matches-fit);
+          },
+          f .steps-fit,
+        );
       })
 
   front-match : 1 ≤ due ph → MatchWord (named ph) w → Front counts (after-match ph s .phase) (after-match ph s) d → Front counts ph s (say w d)

@@ -4,3 +4,5 @@ pub mod States
 pub mod Fronts
 pub mod FrontWords
 pub mod Peeling
+pub mod BarrierRuns
+pub mod BarrierExact

@@ -81,7 +81,7 @@ line-less counts tanks last table l lines cases h b = record {
   counted = b .counted ∙ sym (line-counts table last (length lines) (map length cases) h);
 }
 
-abbrev saying : List Weight → List Weight → CaseText → List CaseText → List Match → List Step → Said
+abbrev pub saying : List Weight → List Weight → CaseText → List CaseText → List Match → List Step → Said
 saying lefts rights lines cases ms ss = record { lefts = lefts; rights = rights; lines = lines; cases = cases; matches = ms; steps = ss }
 
 module _ (counts : List ℕ) (s : BarrierForm) (sound : Sound s) where
@@ -216,3 +216,15 @@ module _ (counts : List ℕ) (s : BarrierForm) (sound : Sound s) where
         };
         same = rw (w .0 .kind-is, w .1);
       }
+
+  parts : (lefts rights : List Weight) (lines : CaseText) (cases : List CaseText) (ms : List Match) (ss : List Step) → let d = saying lefts rights lines cases ms ss in Front counts (s .phase) s d → Peeled counts s d ⊎ ((d ≡ nothing-said) × Between (s .phase))
+  parts (x ∷ xs) rights lines cases ms ss f = inl (peel-left x xs rights lines cases ms ss f)
+  parts [] (x ∷ xs) lines cases ms ss f = inl (peel-right x xs lines cases ms ss f)
+  parts [] [] (l ∷ lines) cases ms ss f = inl (peel-line l lines cases ms ss f)
+  parts [] [] [] (c ∷ cases) ms ss f = inl (peel-case c cases ms ss f)
+  parts [] [] [] [] (m ∷ ms) ss f = inl (peel-match m ms ss f)
+  parts [] [] [] [] [] (st ∷ ss) f = inl (peel-step st ss f)
+  parts [] [] [] [] [] [] f = inr (refl, none-between (s .phase) (sound .begun) (sym (f .tail .matched)))
+
+  pub peel : (d : Said) → Front counts (s .phase) s d → Peeled counts s d ⊎ ((d ≡ nothing-said) × Between (s .phase))
+  peel d f = parts (d .lefts) (d .rights) (d .lines) (d .cases) (d .matches) (d .steps) f

@@ -1,7 +1,7 @@
 -- Which words the form of a barrier paper takes in each phase, and what they lead to.
 use mathlib.Core.Path.{_≡_, refl, sym, ap, _∙_}
 use mathlib.Core.Logic.{_⊎_, inl, inr, ⊎-elim}
-use Prim.Native.Nat.{ℕ, _+_, _-_, _≤_, _<_}
+use Prim.Native.Nat.{ℕ, _+_, _-_, _^_, _≤_, _<_}
 use native.Mathlib.Omega.{arith}
 use mathlib.Core.Bool.{cond}
 use lib.Dec.{eqb}
@@ -302,3 +302,33 @@ none-between (Left least) b e = tt
 none-between (Right least) b e = tt
 none-between (Steps least) b e = tt
 none-between (Matches count lines least) b e = absurd (omega arith)
+
+-- at the end no match is due
+pub ended-between : (ph : Phase) (n : ℕ) (u : Unit {0}) → Begun ph → spec.ended ph n ≡ Ok u → Between ph
+ended-between Start n u b e = b
+ended-between Case n u b e = tt
+ended-between (Left least) n u b e = tt
+ended-between (Right least) n u b e = tt
+ended-between (Steps least) n u b e = tt
+ended-between (Matches count lines least) n u b e = none _ _ e
+
+pub between-ended : (ph : Phase) (n : ℕ) → Between ph → spec.ended ph n ≡ Ok tt
+between-ended Start n b = refl
+between-ended Case n b = refl
+between-ended (Left least) n b = refl
+between-ended (Right least) n b = refl
+between-ended (Steps least) n b = refl
+between-ended (Matches count lines least) n b = elim b [ ]
+
+-- the first word of all
+pub first-taken : (s : BarrierForm) (at w : ℕ) (t : BarrierForm) → by-phase Start s at w ≡ Ok t → CaseWord w × (t ≡ in-phase Case s)
+first-taken s at w t p = (record { kind-is = grind (arith, tells); plain = grind (arith, tells) }, grind (arith, tells))
+
+-- a word that is taken has 32 bits
+pub taken-small : (ph : Phase) (s : BarrierForm) (w : ℕ) (t : BarrierForm) → Taken ph s w t → w < 2 ^ 32
+taken-small ph s w t (a-case i h few e) = omega (arith, h .kind-is)
+taken-small ph s w t (a-line i h few e) = omega (arith, h .kind-is)
+taken-small ph s w t (a-left least i h e) = omega (arith, h .kind-is)
+taken-small ph s w t (a-right least i h e) = omega (arith, h .kind-is)
+taken-small ph s w t (a-step i h e) = omega (arith, h .kind-is)
+taken-small ph s w t (a-match i h e) = omega (arith, h .kind-is)
