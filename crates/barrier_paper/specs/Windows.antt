@@ -24,6 +24,11 @@ abbrev pub part : ℕ → List ℕ → List ℕ
 part k [] = []
 part k (w ∷ ws) = w ∷ before k ws
 
+-- how many words are of kind k
+abbrev pub count-kind : ℕ → List ℕ → ℕ
+count-kind k [] = 0
+count-kind k (w ∷ ws) = cond (eqb (kind w) k) (suc (count-kind k ws)) (count-kind k ws)
+
 -- case i of a paper, and line l of a case
 abbrev pub case-part : ℕ → List ℕ → List ℕ
 case-part i ws = part 6 (from-nth 6 i ws)
@@ -31,9 +36,12 @@ case-part i ws = part 6 (from-nth 6 i ws)
 abbrev pub line-part : ℕ → List ℕ → List ℕ
 line-part l ws = part 7 (from-nth 7 l ws)
 
--- the steps and their matches
+-- the steps and their matches, and all that comes before them
 abbrev pub steps-part : List ℕ → List ℕ
 steps-part ws = from-nth 10 zero ws
+
+abbrev pub before-steps : List ℕ → List ℕ
+before-steps ws = before 10 ws
 
 -- what the weight words of kind k in a part give tank r
 abbrev pub part-weight : ℕ → List ℕ → ℕ → ℤ

@@ -1,3 +1,7 @@
 // The form of barrier papers, and their cases, lines and steps as parts of the paper.
+pub mod barrier_paper;
 pub mod form;
 pub mod limits;
+pub mod windows;
+
+pub use barrier_paper::BarrierPaper;
