@@ -1,11 +1,12 @@
 -- Parts of a barrier paper, by its words: a case is handed out as the words from its case word up to the next case or step,
 -- a line as those from its line word up to the next line.
-use mathlib.Core.Bool.{Bool, cond, _||_}
+use mathlib.Core.Bool.{Bool, false, cond, _||_}
 use mathlib.Core.List.{List, [], _∷_}
 use Prim.Native.Nat.{ℕ, zero, suc}
 use lib.Dec.{eqb}
 use lib.IntN.{ℤ, pos, _+ℤ_}
 use Rattle.words.specs.Words.{kind, field, rest}
+use Rattle.barriers.specs.Lines.{Line}
 use Rattle.barrier_paper.specs.Document.{Weight, signed, weight-said}
 
 -- the words from word number n, from 0, of kind k on
@@ -43,7 +44,19 @@ steps-part ws = from-nth 10 zero ws
 abbrev pub before-steps : List ℕ → List ℕ
 before-steps ws = before 10 ws
 
--- what the weight words of kind k in a part give tank r
+-- what a word gives tank r, if it is a weight word of kind k, and what the words of a part give it
+abbrev pub word-weight : ℕ → ℕ → ℕ → ℤ
+word-weight k w r = cond (eqb (kind w) k) (cond (eqb (weight-said w .tank) r) (signed (weight-said w)) (pos 0)) (pos 0)
+
 abbrev pub part-weight : ℕ → List ℕ → ℕ → ℤ
 part-weight k [] r = pos 0
-part-weight k (w ∷ ws) r = cond (eqb (kind w) k) (cond (eqb (weight-said w .tank) r) (signed (weight-said w)) (pos 0)) (pos 0) +ℤ part-weight k ws r
+part-weight k (w ∷ ws) r = word-weight k w r +ℤ part-weight k ws r
+
+-- whether the line word, the first of a part, says strict
+abbrev pub part-strict : List ℕ → Bool
+part-strict [] = false
+part-strict (w ∷ ws) = eqb (field w 0 1) 1
+
+-- the line that a part says: the words of kind 8 are its left weights, those of kind 9 its right weights
+abbrev pub part-line : List ℕ → Line
+part-line ws = record { left = part-weight 8 ws; right = part-weight 9 ws; strict = part-strict ws }
