@@ -3,6 +3,7 @@ pub mod barrier_paper;
 pub mod form;
 pub mod limits;
 pub mod reading;
+pub mod step_words;
 pub mod weights;
 pub mod windows;
 
