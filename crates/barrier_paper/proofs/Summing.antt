@@ -1,18 +1,18 @@
 -- Steps and bounds of the sums of weight words.
-use mathlib.Core.Path.{_≡_, refl, sym, ap, subst, fun-ext, _∙_}
+use mathlib.Core.Path.{_≡_, refl, sym, ap, subst, _∙_}
 use mathlib.Core.Logic.{⊎-elim}
 use mathlib.Core.Bool.{Bool, true, false, cond}
 use mathlib.Core.List.{List, [], _∷_}
 use Prim.Native.Nat.{ℕ, _+_, _*_, _/_, _^_, _≤_, _<_}
 use native.Mathlib.Omega.{arith}
-use lib.Dec.{eqb}
+use lib.Dec.{eqb, leb}
 use lib.ListN.{length, getD, set, replicate, drop}
 use lib.IntN.{ℤ, pos, natAbs, _+ℤ_}
 use denote.Ref.{now}
 use mir.Val.{toZ, ofZ}
 use mir.Syntax.{w32}
 use Rattle.std.proofs.shelf.Lists.{getD-set-same, getD-set-other, getD-replicate, getD-past, length-replicate}
-use Rattle.std.proofs.shelf.Tests.{eq-eqb, ne-eqb, cases-eq, cases-lt, cond-true, cond-false, cond-both}
+use Rattle.std.proofs.shelf.Tests.{eq-eqb, ne-eqb, cases-eq, cases-lt, cond-true, cond-false, le-leb, lt-leb}
 use Rattle.std.proofs.shelf.Ways.{tells}
 use Rattle.std.proofs.shelf.Signed.{ints}
 use Rattle.plant.specs.Limits.{most-tanks}
@@ -20,10 +20,10 @@ use Rattle.words.specs.Words.{kind, field, words}
 use Rattle.words.specs.Left.{left}
 use Rattle.words.specs.declared.reader.Reader.{Reader}
 use Rattle.paper.specs.Limits.{most-evidence-words}
-use Rattle.barriers.specs.Lines.{Line}
+use Rattle.barriers.specs.Lines.{Line, no-line}
 use Rattle.lines.specs.Limits.{most-weight-sum}
 use Rattle.barrier_paper.specs.Document.{signed, weight-said}
-use Rattle.barrier_paper.specs.Windows.{word-weight, part-weight}
+use Rattle.barrier_paper.specs.Windows.{word-weight, part-weight, part-line, line-said}
 
 -- how large a word's weight and a part's can be
 signed-small : (w : ℕ) → natAbs (signed (weight-said w)) ≤ 16383
@@ -120,3 +120,10 @@ zeros-small r = rw (zeros r) (omega arith)
 -- two lines with the same weights and the same strictness are one
 pub same-line : (a b : Line) → ((r : ℕ) → a .left r ≡ b .left r) → ((r : ℕ) → a .right r ≡ b .right r) → a .strict ≡ b .strict → a ≡ b
 same-line a b lefts rights stricts = λ i. record { left = λ r. lefts r i; right = λ r. rights r i; strict = stricts i }
+
+-- a part that is no longer than a paper may be says its line, and a longer one says nothing
+pub said-short : (ws : List ℕ) → length ws ≤ most-evidence-words → line-said ws ≡ part-line ws
+said-short ws h = cond-true (leb (length ws) most-evidence-words) _ _ (le-leb (length ws) most-evidence-words h)
+
+pub said-long : (ws : List ℕ) → most-evidence-words < length ws → line-said ws ≡ no-line
+said-long ws h = cond-false (leb (length ws) most-evidence-words) _ _ (lt-leb (length ws) most-evidence-words h)

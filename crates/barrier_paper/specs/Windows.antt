@@ -3,10 +3,12 @@
 use mathlib.Core.Bool.{Bool, false, cond, _||_}
 use mathlib.Core.List.{List, [], _∷_}
 use Prim.Native.Nat.{ℕ, zero, suc}
-use lib.Dec.{eqb}
+use lib.Dec.{eqb, leb}
+use lib.ListN.{length}
 use lib.IntN.{ℤ, pos, _+ℤ_}
 use Rattle.words.specs.Words.{kind, field, rest}
-use Rattle.barriers.specs.Lines.{Line}
+use Rattle.paper.specs.Limits.{most-evidence-words}
+use Rattle.barriers.specs.Lines.{Line, no-line}
 use Rattle.barrier_paper.specs.Document.{Weight, signed, weight-said}
 
 -- the words from word number n, from 0, of kind k on
@@ -60,3 +62,7 @@ part-strict (w ∷ ws) = eqb (field w 0 1) 1
 -- the line that a part says: the words of kind 8 are its left weights, those of kind 9 its right weights
 abbrev pub part-line : List ℕ → Line
 part-line ws = record { left = part-weight 8 ws; right = part-weight 9 ws; strict = part-strict ws }
+
+-- the same where a part may be as long as no paper is: then it says nothing, which keeps the sums small
+abbrev pub line-said : List ℕ → Line
+line-said ws = cond (leb (length ws) most-evidence-words) (part-line ws) no-line

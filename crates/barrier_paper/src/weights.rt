@@ -1,16 +1,15 @@
 // The weights of a line: for each tank the sum of its weight words.
 ghost use mathlib.Core.Path.{_≡_};
-ghost use Prim.Native.Nat.{ℕ, _*_, _<_, _≤_};
+ghost use Prim.Native.Nat.{ℕ, _*_, _/_, _<_, _≤_};
 ghost use lib.ListN.{length, getD};
 ghost use lib.IntN.{pos, natAbs, _+ℤ_};
 ghost use Rattle.words.specs.Words.{words};
 ghost use Rattle.plant.specs.Limits.{most-tanks};
 ghost use Rattle.paper.specs.Limits.{most-evidence-words};
-ghost use Rattle.barriers.specs.Lines.{no-line};
 ghost use Rattle.lines.specs.Limits.{most-weight-sum};
 ghost use Rattle.lines.specs.OfLine.{line-meant};
 ghost use Rattle.barrier_paper.specs.Document.{signed, weight-said};
-ghost use Rattle.barrier_paper.specs.Windows.{word-weight, part-weight, part-strict, part-line};
+ghost use Rattle.barrier_paper.specs.Windows.{word-weight, part-weight, part-strict, line-said};
 use lines::line::LineWeights;
 use paper::limits::MOST_EVIDENCE_WORDS;
 use plant::limits::MOST_TANKS;
@@ -40,7 +39,7 @@ fn add_weight(out: &mut [i32; MOST_TANKS], kind: u32, w: u32)
 
 // For each tank what the weight words of the kind give it.
 fn weights(part: &[u8], kind: u32) -> [i32; MOST_TANKS]
-    requires { ⌜ length (now part) ≤ 4 * most-evidence-words ⌝ }
+    requires { ⌜ length (now part) / 4 ≤ most-evidence-words ⌝ }
     ensures { λ out. ⌜ ((r : ℕ) → getD out r (pos 0) ≡ part-weight kind (words (now (part .entry))) r) ⌝ }
 {
     let mut out = [0i32; MOST_TANKS];
@@ -61,12 +60,11 @@ fn is_strict(line: &[u8]) -> bool
     }
 }
 
-// The line that a part of a paper says. A part that is longer than a paper may be says nothing, which keeps the sums small.
+// The line that a part of a paper says. One with more words than a paper may have says nothing, so that no sum is too large.
 pub fn line_weights(line: &[u8]) -> LineWeights
-    ensures said { λ x. ⌜ (length (now (line .entry)) ≤ 4 * most-evidence-words → line-meant x ≡ part-line (words (now (line .entry)))) ⌝ }
-    ensures long { λ x. ⌜ (4 * most-evidence-words < length (now (line .entry)) → line-meant x ≡ no-line) ⌝ }
+    ensures { λ x. ⌜ line-meant x ≡ line-said (words (now (line .entry))) ⌝ }
 {
-    if line.len() > 4 * MOST_EVIDENCE_WORDS {
+    if line.len() / 4 > MOST_EVIDENCE_WORDS {
         return LineWeights {
             left: [0; MOST_TANKS],
             right: [0; MOST_TANKS],
