@@ -6,3 +6,6 @@ pub mod FrontWords
 pub mod Peeling
 pub mod BarrierRuns
 pub mod BarrierExact
+pub mod Seeking
+pub mod Saying
+pub mod Summing
