@@ -9,7 +9,7 @@ use Rattle.std.specs.declared.result.Result.the-variants.{Ok, Err}
 use Rattle.words.specs.declared.faults.WordFault.{WordFault}
 use Rattle.words.specs.declared.faults.WordFault.the-variants.{Ragged, Empty, Long}
 use Rattle.words.specs.declared.faults.PaperFault.{PaperFault}
-use Rattle.words.specs.declared.faults.PaperFault.the-variants.{Words, Kind, Unnamed, Limit, Order}
+use Rattle.words.specs.declared.faults.PaperFault.the-variants.{Words, Kind, Due, Unnamed, Limit, Order, Count}
 use Rattle.words.specs.declared.faults.Part.the-variants.{Words as InWords, Paper as InPaper}
 use Rattle.words.specs.declared.faults.Refusal.{Refusal}
 
@@ -21,9 +21,11 @@ of-words (Long n) = record { number = 3; place = n; part = InWords }
 abbrev pub of-paper : PaperFault → Refusal
 of-paper (Words e) = of-words e
 of-paper (Kind k) = record { number = 4; place = k; part = InPaper }
+of-paper (Due k) = record { number = 5; place = k; part = InPaper }
 of-paper (Unnamed k) = record { number = 6; place = k; part = InPaper }
 of-paper (Limit k) = record { number = 7; place = k; part = InPaper }
 of-paper (Order k) = record { number = 8; place = k; part = InPaper }
+of-paper (Count k) = record { number = 9; place = k; part = InPaper }
 
 -- how many words the bytes are, at most `most`, or the first fault of their length
 abbrev pub counted : ℕ → List ℕ → Result ℕ WordFault

@@ -29,14 +29,16 @@ pub enum WordFault {
 }
 
 // A word that cannot stand where it does, by its place: its kind cannot come, a bit that no field names is one,
-// a field is beyond its limit, or it does not rise.
+// a field is beyond its limit, it does not rise, or it is one case or line too many. Or, at the end of the paper, matches are still due.
 #[derive(Clone, Copy, Debug, PartialEq)]
 pub enum PaperFault {
     Words(WordFault),
     Kind(usize),
+    Due(usize),
     Unnamed(usize),
     Limit(usize),
     Order(usize),
+    Count(usize),
 }
 
 pub impl From<WordFault> for PaperFault as PaperFaultFromWordFault {
@@ -71,9 +73,11 @@ impl PaperFault {
         let (number, place) = match self {
             PaperFault::Words(fault) => return fault.refusal(),
             PaperFault::Kind(word) => (4, word),
+            PaperFault::Due(words) => (5, words),
             PaperFault::Unnamed(word) => (6, word),
             PaperFault::Limit(word) => (7, word),
             PaperFault::Order(word) => (8, word),
+            PaperFault::Count(word) => (9, word),
         };
         Refusal {
             number,

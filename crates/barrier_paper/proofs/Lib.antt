@@ -1,0 +1,11 @@
+pub mod WordParts
+pub mod Taking
+pub mod States
+pub mod Fronts
+pub mod FrontWords
+pub mod Peeling
+pub mod BarrierRuns
+pub mod BarrierExact
+pub mod Seeking
+pub mod Saying
+pub mod Summing

@@ -1,0 +1,7 @@
+use native.Mathlib.Omega.{arith}
+use lib.ListN.{length}
+use Rattle.words.proofs.Laws.{length-words}
+use Rattle.barrier_paper.proofs.windows.count_kind.Needs as need
+
+pub add-count : need.add-count
+add-count c = omega (arith, length-words (c .args .bytes .now))

@@ -1,0 +1,5 @@
+pub mod Filling
+pub mod Adding
+pub mod Comparing
+pub mod Multiples
+pub mod Flows
