@@ -45,7 +45,7 @@ bit-low : (g : Bool) → cond g 1 0 < 2
 bit-low true = omega arith
 bit-low false = omega arith
 
-pub bit-says : (g : Bool) → eqb (cond g 1 0) 1 ≡ g
+bit-says : (g : Bool) → eqb (cond g 1 0) 1 ≡ g
 bit-says true = refl
 bit-says false = refl
 
