@@ -1,12 +1,11 @@
 -- Writing and reading barrier papers are inverse to each other.
 use mathlib.Core.Path.{_≡_, refl, sym, ap, _∙_}
-use mathlib.Core.List.{List, [], _∷_, _++_, map}
+use mathlib.Core.List.{List, [], _∷_, map}
 use mathlib.Core.Logic.{inl}
-use Prim.Native.Nat.{ℕ, zero, suc, _+_, _*_, _^_, _≤_, _<_}
+use Prim.Native.Nat.{ℕ, zero, suc, _*_, _^_, _≤_}
 use native.Mathlib.Nat.{zero-add}
 use native.Mathlib.Omega.{arith}
 use lib.ListN.{length, getD, replicate}
-use Rattle.std.specs.shelf.Lists.{All}
 use Rattle.std.proofs.shelf.Lists.{length-map, nil-from-length}
 use Rattle.std.proofs.shelf.Elements.{all-weaker}
 use Rattle.std.specs.declared.result.Result.the-variants.{Ok}
@@ -16,15 +15,15 @@ use Rattle.words.specs.Inverse.{Bytes}
 use Rattle.words.proofs.Inverses.{words-of-bytes, bytes-of-words}
 use Rattle.paper.specs.Limits.{most-evidence-words}
 use Rattle.paper.specs.Runs.{run, whole}
-use Rattle.paper.proofs.Steps.{through, whole-read, words-small, counted-written}
+use Rattle.paper.proofs.Steps.{through, whole-read, counted-written}
 use Rattle.barriers.specs.Steps.{Step}
 use Rattle.barrier_paper.specs.declared.form.Phase.the-variants.{Start, Case}
 use Rattle.barrier_paper.specs.declared.form.BarrierForm.{BarrierForm}
 use Rattle.barrier_paper.specs.Limits.{most-cases}
-use Rattle.barrier_paper.specs.Document.{CaseText, CaseFits, lines-in, StepFits, BarrierDocument, BarrierFormed, barrier-words, Said, said, say, barrier-document}
+use Rattle.barrier_paper.specs.Document.{CaseText, lines-in, StepFits, BarrierDocument, BarrierFormed, barrier-words, said, say, barrier-document}
 use Rattle.barrier_paper.specs.Form.{start, in-phase, by-phase, barrier-step, ended, barrier-form, barrier-read}
 use Rattle.barrier_paper.specs.Inverse.{Barrier-papers-are-exact}
-use Rattle.barrier_paper.proofs.WordParts.{CaseWord, case-good}
+use Rattle.barrier_paper.proofs.WordParts.{case-good}
 use Rattle.barrier_paper.proofs.Taking.{first-taken, between-ended}
 use Rattle.barrier_paper.proofs.States.{Sound}
 use Rattle.barrier_paper.proofs.Fronts.{StepCounted, Front}
@@ -104,7 +103,7 @@ written tanks valves [] ss f = absurd (omega (arith, f .some-cases))
 written tanks valves (c ∷ cs) ss f =
     let d = saying [] [] c cs [] ss in
     let g = begin-front tanks valves c cs ss f in
-    let e = words-case (map length (c ∷ cs)) (begin tanks valves) (6 * 2 ^ 28) d case-good g in
+    let e = words-case (6 * 2 ^ 28) d case-good g in
     let r = write (map length (c ∷ cs)) (begin tanks valves) 1 (front-words d) d (begin-sound tanks valves) g refl in
     (omega arith, rw e (record { end = r .end; runs = r .runs; ends = r .ends; says = ap (say (6 * 2 ^ 28)) (r .says); small = (omega arith, r .small) }))
 
@@ -129,7 +128,7 @@ formed tanks valves (w ∷ ws) e n u some few p q =
     let cs = d .lines ∷ d .cases in
     let none = nil-from-length (d .matches) (f .tail .matched) in
     let counts : counts-of e ≡ map length cs = f .body .counted ∙ rw zero-add in
-    let words-are : w ∷ ws ≡ barrier-words (record { cases = cs; steps = d .steps }) = ap (λ vs. w ∷ vs) (sym (r .1)) ∙ sym (words-case (counts-of e) (begin tanks valves) w d (b .0) f) ∙ rw (b .0 .kind-is, none) in
+    let words-are : w ∷ ws ≡ barrier-words (record { cases = cs; steps = d .steps }) = ap (λ vs. w ∷ vs) (sym (r .1)) ∙ sym (words-case w d (b .0) f) ∙ rw (b .0 .kind-is, none) in
     rw (b .0 .kind-is) (
       record {
         some-cases = omega arith;

@@ -3,7 +3,7 @@
 use mathlib.Core.Path.{_≡_, refl, sym, ap, _∙_}
 use mathlib.Core.List.{List, [], _∷_}
 use mathlib.Core.Logic.{inr, ⊎-elim}
-use Prim.Native.Nat.{ℕ, _+_, _≤_, _<_}
+use Prim.Native.Nat.{ℕ, _+_}
 use native.Mathlib.Omega.{arith}
 use lib.ListN.{length, take}
 use Rattle.std.specs.declared.result.Result.the-variants.{Ok}
@@ -13,7 +13,7 @@ use Rattle.paper.proofs.Steps.{through}
 use Rattle.barrier_paper.specs.declared.form.BarrierForm.{BarrierForm}
 use Rattle.barrier_paper.specs.Document.{Said, said, say, nothing-said}
 use Rattle.barrier_paper.specs.Form.{by-phase, barrier-step, ended}
-use Rattle.barrier_paper.proofs.Taking.{lefts-from, rights-from, Between, Taken, taken, takes, taken-small, between-none, ended-between, between-ended}
+use Rattle.barrier_paper.proofs.Taking.{lefts-from, rights-from, Between, taken, takes, taken-small, between-none, ended-between}
 use Rattle.barrier_paper.proofs.States.{Sound, room, sound-kept}
 use Rattle.barrier_paper.proofs.Fronts.{Front, no-weights, at-end, front-more}
 use Rattle.barrier_paper.proofs.FrontWords.{front-words, words-more}

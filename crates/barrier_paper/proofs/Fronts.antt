@@ -11,13 +11,13 @@ use Rattle.std.specs.shelf.Lists.{All}
 use Rattle.std.proofs.shelf.Lists.{append-assoc, take-more, take-set, getD-set-same, getD-take, length-take-le}
 use Rattle.std.specs.declared.option.Option.{Option}
 use Rattle.std.specs.declared.option.Option.the-variants.{Some, None}
-use Rattle.words.specs.Words.{kind, field}
+use Rattle.words.specs.Words.{field}
 use Rattle.barriers.specs.Steps.{Match, Step}
 use Rattle.barrier_paper.specs.declared.form.Phase.{Phase}
 use Rattle.barrier_paper.specs.declared.form.Phase.the-variants.{Start, Case, Left, Right, Steps, Matches}
 use Rattle.barrier_paper.specs.declared.form.BarrierForm.{BarrierForm}
 use Rattle.barrier_paper.specs.Limits.{most-cases, most-lines}
-use Rattle.barrier_paper.specs.Document.{Weight, WeightFits, RisingWeights, LineText, LineFits, CaseText, CaseFits, MatchFits, RisingSteps, step-key, weight-word, line-words, joined, case-words, match-word, step-words, weight-said, match-said, step-said, Said, say}
+use Rattle.barrier_paper.specs.Document.{Weight, WeightFits, RisingWeights, LineText, LineFits, CaseText, CaseFits, MatchFits, RisingSteps, weight-said, Said, say}
 use Rattle.barrier_paper.specs.Form.{in-phase, waiting}
 use Rattle.barrier_paper.proofs.WordParts.{CaseWord, LineWord, WeightWord, StepWord, MatchWord, weight-fits, match-fits, key-said}
 use Rattle.barrier_paper.proofs.Taking.{InCase, lefts-from, rights-from, due, named, Between, least-step, after-case, after-line, after-step, after-match, Taken, a-case, a-line, a-left, a-right, a-step, a-match, left-in-case, right-in-case, between-none}
@@ -67,13 +67,13 @@ no-weights tanks None = refl
 no-weights tanks (Some least) = (tt, tt)
 
 -- in a case nothing is due
-pub quiet : (ph : Phase) (ms : List Match) (ss : List Step) → InCase ph → Tail 0 0 0 ms ss → Tail (due ph) (named ph) (least-step ph) ms ss
-quiet Start ms ss i t = elim i [ ]
-quiet Case ms ss i t = t
-quiet (Left least) ms ss i t = t
-quiet (Right least) ms ss i t = t
-quiet (Steps least) ms ss i t = elim i [ ]
-quiet (Matches count lines least) ms ss i t = elim i [ ]
+pub quiet : (ph : Phase) (ms : List Match) (ss : List Step) → InCase ph → let t = Tail (due ph) (named ph) (least-step ph) ms ss in (t → Tail 0 0 0 ms ss) × (Tail 0 0 0 ms ss → t)
+quiet Start ms ss i = elim i [ ]
+quiet Case ms ss i = (λ t. t, λ t. t)
+quiet (Left least) ms ss i = (λ t. t, λ t. t)
+quiet (Right least) ms ss i = (λ t. t, λ t. t)
+quiet (Steps least) ms ss i = elim i [ ]
+quiet (Matches count lines least) ms ss i = elim i [ ]
 
 -- so many matches are due
 none-fit : (a b : ℕ) (ms : List Match) → length ms ≡ 0 → All (MatchFits a) ms → All (MatchFits b) ms
@@ -110,16 +110,16 @@ counts-end {table = table} {last = last} b h el ec = (rw (el, ec) at (b .counted
 pub count-at : (table : List ℕ) (last i : ℕ) → i ≤ last → getD (take (last + 1) table) i 0 ≡ getD table i 0
 count-at table last i k = getD-take (last + 1) table i 0 (omega arith)
 
+pub length-counts : (table : List ℕ) (last : ℕ) → last < length table → length (take (last + 1) table) ≡ last + 1
+length-counts table last h = length-take-le (last + 1) table (omega arith)
+
 -- where matches or steps are due, nothing else comes before them
 pub bare : (counts : List ℕ) (s : BarrierForm) (d : Said) (count lines least : ℕ) → Front counts (waiting count lines least) s d → (d .lefts ≡ []) × (d .rights ≡ []) × (d .lines ≡ []) × (d .cases ≡ [])
 bare counts s d count lines least =
-    waits count lines least (λ ph. Front counts ph s d → (d .lefts ≡ []) × (d .rights ≡ []) × (d .lines ≡ []) × (d .cases ≡ [])) (λ _ f. rest f (f .in-case) (f .lefts-fit) (f .rights-fit)) (λ _ f. rest f (f .in-case) (f .lefts-fit) (f .rights-fit))
+    waits count lines least (λ ph. Front counts ph s d → (d .lefts ≡ []) × (d .rights ≡ []) × (d .lines ≡ []) × (d .cases ≡ [])) (λ _ f. all (f .lefts-fit) (f .rights-fit) (f .in-case)) (λ _ f. all (f .lefts-fit) (f .rights-fit) (f .in-case))
   where
-    rest : {ph : Phase} → Front counts ph s d → ⊥ ⊎ ((d .lines ≡ []) × (d .cases ≡ [])) → d .lefts ≡ [] → d .rights ≡ [] → (d .lefts ≡ []) × (d .rights ≡ []) × (d .lines ≡ []) × (d .cases ≡ [])
-    rest f i l r = ⊎-elim (λ (z : ⊥). absurd z) (λ (e : (d .lines ≡ []) × (d .cases ≡ [])). (l, r, e .0, e .1)) i
-
-pub length-counts : (table : List ℕ) (last : ℕ) → last < length table → length (take (last + 1) table) ≡ last + 1
-length-counts table last h = length-take-le (last + 1) table (omega arith)
+    all : d .lefts ≡ [] → d .rights ≡ [] → ⊥ ⊎ ((d .lines ≡ []) × (d .cases ≡ [])) → (d .lefts ≡ []) × (d .rights ≡ []) × (d .lines ≡ []) × (d .cases ≡ [])
+    all l r i = ⊎-elim (λ (z : ⊥). absurd z) (λ (e : (d .lines ≡ []) × (d .cases ≡ [])). (l, r, e .0, e .1)) i
 
 -- ---- one more word before a front
 
@@ -151,7 +151,7 @@ module _ (counts : List ℕ) (ph : Phase) (s : BarrierForm) (sound : Sound s) (w
     rights-fit = no-weights (s .tanks) (rights-from ph);
     in-case = inl i;
     body = case-more counts (s .tanks) (s .last) (s .lines) (d .lines) (d .cases) (room s sound) (sound .few (s .last)) (sound .blank (s .last + 1) (omega arith)) (f .body);
-    tail = quiet ph (d .matches) (d .steps) i (f .tail);
+    tail = quiet ph (d .matches) (d .steps) i .1 (f .tail);
     steps-fit = f .steps-fit;
   })
 
@@ -161,7 +161,7 @@ module _ (counts : List ℕ) (ph : Phase) (s : BarrierForm) (sound : Sound s) (w
     rights-fit = no-weights (s .tanks) (rights-from ph);
     in-case = inl i;
     body = line-more counts (s .tanks) (s .last) (s .lines) _ (d .lines) (d .cases) (room s sound) (record { lefts-fit = f .lefts-fit .0; lefts-rise = f .lefts-fit .1; rights-fit = f .rights-fit .0; rights-rise = f .rights-fit .1 }) (f .body);
-    tail = quiet ph (d .matches) (d .steps) i (f .tail);
+    tail = quiet ph (d .matches) (d .steps) i .1 (f .tail);
     steps-fit = f .steps-fit;
   })
 
@@ -173,7 +173,7 @@ module _ (counts : List ℕ) (ph : Phase) (s : BarrierForm) (sound : Sound s) (w
         rights-fit = rw (i .1) (f .rights-fit);
         in-case = inl (i .0);
         body = f .body;
-        tail = quiet ph (d .matches) (d .steps) (i .0) (f .tail);
+        tail = quiet ph (d .matches) (d .steps) (i .0) .1 (f .tail);
         steps-fit = f .steps-fit;
       })
 
@@ -185,7 +185,7 @@ module _ (counts : List ℕ) (ph : Phase) (s : BarrierForm) (sound : Sound s) (w
         rights-fit = rw e (weights-more 9 (s .tanks) least w (d .rights) h (f .rights-fit));
         in-case = inl i;
         body = f .body;
-        tail = quiet ph (d .matches) (d .steps) i (f .tail);
+        tail = quiet ph (d .matches) (d .steps) i .1 (f .tail);
         steps-fit = f .steps-fit;
       })
 

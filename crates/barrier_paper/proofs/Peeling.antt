@@ -2,27 +2,24 @@
 use mathlib.Core.Path.{_≡_, refl, sym, ap, _∙_}
 use mathlib.Core.List.{List, [], _∷_, map}
 use mathlib.Core.Logic.{_⊎_, inl, inr, ⊎-elim}
-use Prim.Native.Nat.{ℕ, suc, _+_, _-_, _*_, _^_, _≤_, _<_}
-use native.Mathlib.Nat.{add-zero}
+use Prim.Native.Nat.{ℕ, _+_, _-_, _*_, _^_, _≤_, _<_}
 use native.Mathlib.Numerals.{add-one}
 use native.Mathlib.Omega.{arith}
-use lib.ListN.{length, getD, set, take}
+use lib.ListN.{length, getD, set}
 use Rattle.std.specs.shelf.Lists.{All}
-use Rattle.std.proofs.shelf.Lists.{getD-set-same, length-take-le}
+use Rattle.std.proofs.shelf.Lists.{getD-set-same}
 use Rattle.std.specs.declared.option.Option.{Option}
 use Rattle.std.specs.declared.option.Option.the-variants.{Some, None}
-use Rattle.words.specs.Words.{kind, field}
+use Rattle.words.specs.Words.{field}
 use Rattle.barriers.specs.Steps.{Match, Step}
-use Rattle.barrier_paper.specs.declared.form.Phase.{Phase}
-use Rattle.barrier_paper.specs.declared.form.Phase.the-variants.{Start, Case, Left, Right, Steps, Matches}
+use Rattle.barrier_paper.specs.declared.form.Phase.the-variants.{Left, Right}
 use Rattle.barrier_paper.specs.declared.form.BarrierForm.{BarrierForm}
-use Rattle.barrier_paper.specs.Limits.{most-cases, most-lines}
-use Rattle.barrier_paper.specs.Document.{Weight, LineText, LineFits, CaseText, CaseFits, MatchFits, RisingSteps, step-key, weight-word, match-word, weight-said, match-said, step-said, Said, say, nothing-said}
-use Rattle.barrier_paper.specs.Form.{in-phase, waiting}
+use Rattle.barrier_paper.specs.Document.{Weight, LineText, CaseText, MatchFits, step-key, weight-word, match-word, weight-said, Said, say, nothing-said}
+use Rattle.barrier_paper.specs.Form.{in-phase}
 use Rattle.barrier_paper.proofs.WordParts.{WeightWord, line-head, step-head, weight-good, weight-says, line-good, case-good, match-good, step-good, key-said}
 use Rattle.barrier_paper.proofs.Taking.{InCase, lefts-from, rights-from, due, named, Between, least-step, after-case, after-line, after-step, after-match, Taken, a-case, a-line, a-left, a-right, a-step, a-match, left-in-case, right-in-case, none-between}
 use Rattle.barrier_paper.proofs.States.{Sound, room}
-use Rattle.barrier_paper.proofs.Fronts.{Weights, Body, Tail, StepCounted, Front, no-weights, tail-waits, case-counts, line-counts, counts-end, count-at, length-counts}
+use Rattle.barrier_paper.proofs.Fronts.{Weights, Body, Front, no-weights, quiet, tail-waits, case-counts, line-counts, counts-end, count-at, length-counts}
 
 -- one word and what is said after it
 pub record Peeled (counts : List ℕ) (s : BarrierForm) (d : Said) : Type 0 where
@@ -32,15 +29,6 @@ pub record Peeled (counts : List ℕ) (s : BarrierForm) (d : Said) : Type 0 wher
   pub took : Taken (s .phase) s word next
   pub front : Front counts (next .phase) next after
   pub same : say word after ≡ d
-
--- in a case nothing is due
-loud : (ph : Phase) (ms : List Match) (ss : List Step) → InCase ph → Tail (due ph) (named ph) (least-step ph) ms ss → Tail 0 0 0 ms ss
-loud Start ms ss i t = elim i [ ]
-loud Case ms ss i t = t
-loud (Left least) ms ss i t = t
-loud (Right least) ms ss i t = t
-loud (Steps least) ms ss i t = elim i [ ]
-loud (Matches count lines least) ms ss i t = elim i [ ]
 
 -- the first of some weights
 record FirstWeight (k tanks : ℕ) (o : Option ℕ) (x : Weight) (xs : List Weight) : Type 0 where
@@ -99,7 +87,7 @@ module _ (counts : List ℕ) (s : BarrierForm) (sound : Sound s) where
           rights-fit = rw (i .1) at (f .rights-fit);
           in-case = inl tt;
           body = f .body;
-          tail = loud (s .phase) ms ss (i .0) (f .tail);
+          tail = quiet (s .phase) ms ss (i .0) .0 (f .tail);
           steps-fit = f .steps-fit;
         };
         same = rw (w .good .kind-is, w .says);
@@ -118,7 +106,7 @@ module _ (counts : List ℕ) (s : BarrierForm) (sound : Sound s) where
           rights-fit = w .more;
           in-case = inl tt;
           body = f .body;
-          tail = loud (s .phase) ms ss (right-in-case (s .phase) (w .least) (w .from)) (f .tail);
+          tail = quiet (s .phase) ms ss (right-in-case (s .phase) (w .least) (w .from)) .0 (f .tail);
           steps-fit = f .steps-fit;
         };
         same = rw (w .good .kind-is, w .says);
@@ -139,7 +127,7 @@ module _ (counts : List ℕ) (s : BarrierForm) (sound : Sound s) where
           rights-fit = (fit .rights-fit, fit .rights-rise);
           in-case = inl tt;
           body = line-less counts (s .tanks) (s .last) (s .lines) l lines cases (room s sound) (f .body);
-          tail = loud (s .phase) ms ss i (f .tail);
+          tail = quiet (s .phase) ms ss i .0 (f .tail);
           steps-fit = f .steps-fit;
         };
         same = rw (w .0 .kind-is, w .1);
@@ -158,7 +146,7 @@ module _ (counts : List ℕ) (s : BarrierForm) (sound : Sound s) where
           rights-fit = refl;
           in-case = inl tt;
           body = case-less counts (s .tanks) (s .last) (s .lines) c cases (room s sound) (sound .blank (s .last + 1) (omega arith)) (f .body);
-          tail = loud (s .phase) ms ss i (f .tail);
+          tail = quiet (s .phase) ms ss i .0 (f .tail);
           steps-fit = f .steps-fit;
         };
         same = refl;

@@ -1,6 +1,6 @@
 -- Which words the form of a barrier paper takes in each phase, and what they lead to.
 use mathlib.Core.Path.{_≡_, refl, sym, ap, _∙_}
-use mathlib.Core.Logic.{_⊎_, inl, inr, ⊎-elim}
+use mathlib.Core.Logic.{_⊎_, ⊎-elim}
 use Prim.Native.Nat.{ℕ, _+_, _-_, _^_, _≤_, _<_}
 use native.Mathlib.Omega.{arith}
 use mathlib.Core.Bool.{cond}
@@ -17,7 +17,7 @@ use Rattle.paper.proofs.Steps.{through}
 use Rattle.barrier_paper.specs.declared.form.Phase.{Phase}
 use Rattle.barrier_paper.specs.declared.form.Phase.the-variants.{Start, Case, Left, Right, Steps, Matches}
 use Rattle.barrier_paper.specs.declared.form.BarrierForm.{BarrierForm}
-use Rattle.barrier_paper.specs.Limits.{most-cases, most-lines, most-line-weight}
+use Rattle.barrier_paper.specs.Limits.{most-cases, most-lines}
 use Rattle.barrier_paper.specs.Form as spec
 use Rattle.barrier_paper.specs.Form.{in-phase, waiting, by-phase}
 use Rattle.barrier_paper.proofs.WordParts.{CaseWord, LineWord, WeightWord, StepWord, MatchWord}
@@ -199,21 +199,13 @@ taken (Matches count lines least) s at w t b p =
 
 -- ---- a word that is taken leads on
 
-case-comes : (ph : Phase) (s : BarrierForm) (at w : ℕ) → InCase ph → kind w ≡ 6 → by-phase ph s at w ≡ spec.next-case s at w
-case-comes Start s at w i k = elim i [ ]
-case-comes Case s at w i k = rw k
-case-comes (Left least) s at w i k = rw k
-case-comes (Right least) s at w i k = rw k
-case-comes (Steps least) s at w i k = elim i [ ]
-case-comes (Matches count lines least) s at w i k = elim i [ ]
-
-line-comes : (ph : Phase) (s : BarrierForm) (at w : ℕ) → InCase ph → kind w ≡ 7 → by-phase ph s at w ≡ spec.line s at w
-line-comes Start s at w i k = elim i [ ]
-line-comes Case s at w i k = rw k
-line-comes (Left least) s at w i k = rw k
-line-comes (Right least) s at w i k = rw k
-line-comes (Steps least) s at w i k = elim i [ ]
-line-comes (Matches count lines least) s at w i k = elim i [ ]
+in-case-comes : (ph : Phase) (s : BarrierForm) (at w : ℕ) → InCase ph → (kind w ≡ 6 → by-phase ph s at w ≡ spec.next-case s at w) × (kind w ≡ 7 → by-phase ph s at w ≡ spec.line s at w)
+in-case-comes Start s at w i = elim i [ ]
+in-case-comes Case s at w i = (λ k. rw k, λ k. rw k)
+in-case-comes (Left least) s at w i = (λ k. rw k, λ k. rw k)
+in-case-comes (Right least) s at w i = (λ k. rw k, λ k. rw k)
+in-case-comes (Steps least) s at w i = elim i [ ]
+in-case-comes (Matches count lines least) s at w i = elim i [ ]
 
 step-comes : (ph : Phase) (s : BarrierForm) (at w : ℕ) → Between ph → kind w ≡ 10 → by-phase ph s at w ≡ spec.step (least-step ph) s at w
 step-comes Start s at w i k = elim i [ ]
@@ -256,10 +248,10 @@ takes-weight then s k at w least h = let c : spec.weight-checked least (s .tanks
 pub takes : (ph : Phase) (s : BarrierForm) (at w : ℕ) (t : BarrierForm) → Taken ph s w t → by-phase ph s at w ≡ Ok t
 takes ph s at w t (a-case i h few e) =
     let good : spec.next-case s at w ≡ Ok (after-case s) = grind (arith, tells) in
-    case-comes ph s at w i (h .kind-is) ∙ good ∙ ap Ok (sym e)
+    in-case-comes ph s at w i .0 (h .kind-is) ∙ good ∙ ap Ok (sym e)
 takes ph s at w t (a-line i h few e) =
     let good : spec.line s at w ≡ Ok (after-line s) = grind (arith, tells) in
-    line-comes ph s at w i (h .kind-is) ∙ good ∙ ap Ok (sym e)
+    in-case-comes ph s at w i .1 (h .kind-is) ∙ good ∙ ap Ok (sym e)
 takes ph s at w t (a-left least i h e) = left-comes ph s at w least i (h .kind-is) ∙ takes-weight Left s 8 at w least h ∙ ap Ok (sym e)
 takes ph s at w t (a-right least i h e) = right-comes ph s at w least i (h .kind-is) ∙ takes-weight Right s 9 at w least h ∙ ap Ok (sym e)
 takes ph s at w t (a-step i h e) =

@@ -9,7 +9,7 @@ use lib.Dec.{eqb}
 use Rattle.std.proofs.shelf.Ways.{tells}
 use Rattle.words.specs.Words.{kind, field}
 use Rattle.barriers.specs.Steps.{Way, forward, backward, Match, Step}
-use Rattle.barrier_paper.specs.Limits.{most-line-weight, most-factor}
+use Rattle.barrier_paper.specs.Limits.{most-line-weight}
 use Rattle.barrier_paper.specs.Document.{Weight, WeightFits, MatchFits, way-bit, step-key, weight-word, match-word, weight-said, match-said, step-said}
 
 pub record CaseWord (w : ℕ) : Type 0 where
@@ -45,7 +45,7 @@ bit-low : (g : Bool) → cond g 1 0 < 2
 bit-low true = omega arith
 bit-low false = omega arith
 
-pub bit-says : (g : Bool) → eqb (cond g 1 0) 1 ≡ g
+bit-says : (g : Bool) → eqb (cond g 1 0) 1 ≡ g
 bit-says true = refl
 bit-says false = refl
 
