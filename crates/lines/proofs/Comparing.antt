@@ -27,8 +27,3 @@ widened w = toZ w64 (ofZ w64 (toZ w32 (ofZ w32 w)))
 -- a tank's number, of weights of 32 bits
 pub tank-number : (a b : ℕ) (x y d : ℤ) → natAbs x ≤ most-weight-sum → natAbs y ≤ most-weight-sum → d ≡ pos a *ℤ widened x -ℤ pos b *ℤ widened y → d ≡ pos a *ℤ x -ℤ pos b *ℤ y
 tank-number a b x y d hx hy e = e ∙ rw (wide x hx, wide y hy) refl
-
--- the second of two tests, where the first passed
-pub second-test : (d g x y : ℤ) → SFits w64 d → SFits w64 g → d ≡ x → g ≡ y → leZ (pos 0) (toZ w64 (ofZ w64 d)) ≡ true → leZ (pos 0) (toZ w64 (ofZ w64 g)) ≡ (leZ (pos 0) x && leZ (pos 0) y)
-second-test d g x y hd hg ed eg passed =
-    ap (leZ (pos 0)) (toZ-ofZ w64 g hg ∙ eg) ∙ rw (sym (ap (leZ (pos 0)) (toZ-ofZ w64 d hd ∙ ed)) ∙ passed) refl

@@ -2,18 +2,22 @@
 ghost use mathlib.Core.Path.{_≡_};
 ghost use Prim.Native.Nat.{ℕ, _<_, _≤_};
 ghost use lib.IntN.{pos, natAbs, _-ℤ_, _*ℤ_};
+ghost use lib.ListN.{getD};
+ghost use lib.Signed.{leZ};
 ghost use Rattle.plant.specs.Limits.{most-tanks};
 ghost use Rattle.plant.specs.Net.{Net};
 ghost use Rattle.walks.specs.Rounds.{all-below};
+ghost use Rattle.barriers.specs.Lines.{side};
 ghost use Rattle.barriers.specs.Steps.{flow};
 ghost use Rattle.barriers.specs.Tests.{tank-good?, marked?, good?};
-ghost use Rattle.lines.specs.Limits.{most-valve-side};
+ghost use Rattle.lines.specs.Limits.{most-valve-side, most-weight-sum};
 ghost use Rattle.lines.specs.OfLine.{line-meant};
 ghost use Rattle.lines.specs.OfValve.{Read-from};
 ghost use Rattle.lines.specs.OfWay.{way-meant};
 use crate::line::LineWeights;
 use crate::sides::side_of;
 use crate::valve::ValveWeights;
+use plant::limits::MOST_TANKS;
 
 // Forward: a firing changes the second filling of a pair. Backward: it leads to the first.
 #[derive(Clone, Copy, Debug, PartialEq)]
@@ -38,16 +42,24 @@ fn difference(a: u16, x: i64, b: u16, y: i64) -> i64
     a as i64 * x - b as i64 * y
 }
 
-// Whether both numbers of a tank are at least 0: its left weight must not grow from p times one line to q times the other,
+// Whether a times a tank's weight in one table is at least b times its weight in another.
+fn covers(a: u16, high: &[i32; MOST_TANKS], b: u16, low: &[i32; MOST_TANKS], tank: usize) -> bool
+    requires inside { ⌜ tank < most-tanks ⌝ }
+    requires high { ⌜ ((r : ℕ) → natAbs (getD (now high) r (pos 0)) ≤ most-weight-sum) ⌝ }
+    requires low { ⌜ ((r : ℕ) → natAbs (getD (now low) r (pos 0)) ≤ most-weight-sum) ⌝ }
+    ensures { λ r. ⌜ r ≡ leZ (pos 0) (pos a *ℤ getD (now (high .entry)) tank (pos 0) -ℤ pos b *ℤ getD (now (low .entry)) tank (pos 0)) ⌝ }
+{
+    difference(a, high[tank] as i64, b, low[tank] as i64) >= 0
+}
+
+// Whether both numbers of a tank are at least 0: with the factors, its left weight must not grow from line to line,
 // and its right weight must not fall.
 fn is_tank_good(from: &LineWeights, to: &LineWeights, factors: Factors, tank: usize) -> bool
     requires { ⌜ tank < most-tanks ⌝ }
     ensures { λ r. ⌜ r ≡ tank-good? (line-meant (now (from .entry))) (line-meant (now (to .entry))) (factors .p) (factors .q) tank ⌝ }
 {
     let Factors { p, q } = factors;
-    let drop = difference(p, from.left[tank] as i64, q, to.left[tank] as i64);
-    let growth = difference(q, to.right[tank] as i64, p, from.right[tank] as i64);
-    drop >= 0 && growth >= 0
+    covers(p, &from.left, q, &to.left, tank) && covers(q, &to.right, p, &from.right, tank)
 }
 
 // The same of each of the first tanks.
@@ -63,7 +75,24 @@ fn are_tanks_good(from: &LineWeights, to: &LineWeights, factors: Factors, tanks:
     true
 }
 
-// The flow number of a valve: what it gives, less what it takes, by the weights that a firing changes in each direction.
+// a times the side of what a valve gives, less b times the side of what it takes.
+fn balance(
+    valve: &ValveWeights,
+    a: u16,
+    gains: &[i32; MOST_TANKS],
+    b: u16,
+    losses: &[i32; MOST_TANKS],
+) -> i64
+    requires gains { ⌜ ((r : ℕ) → natAbs (getD (now gains) r (pos 0)) ≤ most-weight-sum) ⌝ }
+    requires losses { ⌜ ((r : ℕ) → natAbs (getD (now losses) r (pos 0)) ≤ most-weight-sum) ⌝ }
+    ensures { λ r. ⌜ ((N : Net) (t : ℕ) → Read-from (now (valve .entry)) N t → r ≡ pos a *ℤ side (λ r. getD (now (gains .entry)) r (pos 0)) (N .outlet t) (N .tanks) -ℤ pos b *ℤ side (λ r. getD (now (losses .entry)) r (pos 0)) (N .intake t) (N .tanks)) ⌝ }
+{
+    let given = side_of(gains, &valve.outlet, valve.tanks);
+    let taken = side_of(losses, &valve.intake, valve.tanks);
+    difference(a, given, b, taken)
+}
+
+// The flow number of a valve, by the weights of the side that a firing changes.
 pub fn flow_number(
     valve: &ValveWeights,
     way: Way,
@@ -75,16 +104,8 @@ pub fn flow_number(
 {
     let Factors { p, q } = factors;
     match way {
-        Way::Forward => {
-            let given = side_of(&to.right, &valve.outlet, valve.tanks);
-            let taken = side_of(&from.right, &valve.intake, valve.tanks);
-            difference(q, given, p, taken)
-        }
-        Way::Backward => {
-            let given = side_of(&from.left, &valve.outlet, valve.tanks);
-            let taken = side_of(&to.left, &valve.intake, valve.tanks);
-            difference(p, given, q, taken)
-        }
+        Way::Forward => balance(valve, q, &to.right, p, &from.right),
+        Way::Backward => balance(valve, p, &from.left, q, &to.left),
     }
 }
 
