@@ -8,10 +8,10 @@ use lib.Dec.{eqb}
 use lib.ListN.{length, getD}
 use Rattle.std.specs.shelf.Lists.{All}
 use Rattle.std.proofs.shelf.Lists.{append-nil}
-use Rattle.std.proofs.shelf.Tests.{cond-true, or-left, or-right, eq-eqb}
+use Rattle.std.proofs.shelf.Tests.{cond-true, cond-false, or-left, or-right, eq-eqb, ne-eqb}
 use Rattle.words.specs.Words.{kind}
 use Rattle.barrier_paper.specs.Document.{joined}
-use Rattle.barrier_paper.specs.Windows.{from-nth, before, part}
+use Rattle.barrier_paper.specs.Windows.{from-nth, before, part, count-kind}
 use Rattle.barrier_paper.proofs.Seeking.{seek-pass, seek-count, seek-found, before-goes}
 use Rattle.barrier_paper.proofs.WordKinds.{Kinds}
 
@@ -30,6 +30,12 @@ go-on k low high [] ys h other step = refl
 go-on k low high (x ∷ xs) ys h other step =
     before-goes k x (xs ++ ys) (other (kind x) (h .0 .0) (h .0 .1)) (step (kind x) (h .0 .0) (h .0 .1))
     ∙ ap (λ ws. x ∷ ws) (go-on k low high xs ys (h .1) other step)
+
+-- counting passes them too
+pub count-none : (k low high : ℕ) (xs ys : List ℕ) → Kinds low high xs → Apart low high k → count-kind k (xs ++ ys) ≡ count-kind k ys
+count-none k low high [] ys h other = refl
+count-none k low high (x ∷ xs) ys h other =
+    cond-false (eqb (kind x) k) _ _ (ne-eqb (kind x) k (other (kind x) (h .0 .0) (h .0 .1))) ∙ count-none k low high xs ys (h .1) other
 
 -- a part ends here: there are no more words, or the next is of the kind or a step
 abbrev pub Stops : ℕ → List ℕ → Type 0
@@ -94,3 +100,11 @@ module _ {X : Type 0} {k : ℕ} {f : X → List ℕ} {Fits : X → Type 0} (B : 
       ap (from-nth k (suc i)) (append-assoc (f x) (joined f xs) zs)
       ∙ (later i x (joined f xs ++ zs) (h .0)
       ∙ past-blocks xs low high zs i (h .1) lack other (omega arith))
+
+  -- there are as many words of the kind as there are blocks
+  pub count-blocks : (xs : List X) → All Fits xs → count-kind k (joined f xs) ≡ length xs
+  count-blocks [] h = refl
+  count-blocks (x ∷ xs) h =
+      ap (λ ws. count-kind k (ws ++ joined f xs)) (B .made x)
+      ∙ (cond-true (eqb (kind (B .head x)) k) _ _ (eq-eqb (kind (B .head x)) k (B .head-kind x (h .0)))
+      ∙ ap suc (count-none k (suc k) 9 (B .tail x) (joined f xs) (B .tail-kinds x (h .0)) (λ j a b e. omega arith) ∙ count-blocks xs (h .1)))

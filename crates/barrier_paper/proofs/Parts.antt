@@ -7,7 +7,7 @@ use Prim.Native.Nat.{ℕ, zero, suc, _+_, _*_, _^_, _≤_, _<_}
 use native.Mathlib.Omega.{arith}
 use lib.Dec.{eqb}
 use lib.IntN.{ℤ, pos, _+ℤ_}
-use lib.ListN.{length, getD, drop}
+use lib.ListN.{length, getD}
 use Rattle.std.specs.shelf.Lists.{All}
 use Rattle.std.proofs.shelf.Lists.{append-nil, getD-map, getD-past, length-map}
 use Rattle.std.proofs.shelf.Elements.{all-getD}
@@ -15,15 +15,16 @@ use Rattle.std.proofs.shelf.Tests.{cond-true, cond-false, cond-both, eq-eqb, ne
 use Rattle.std.proofs.shelf.Signed.{ints}
 use Rattle.words.specs.Words.{words, kind, field}
 use Rattle.words.proofs.Inverses.{words-of-bytes}
-use Rattle.paper.specs.Limits.{most-evidence-words}
-use Rattle.barriers.specs.Lines.{Line, no-line, line-at, case-at}
+use Rattle.barriers.specs.Lines.{no-line, line-at, case-at}
 use Rattle.barriers.specs.Steps.{Step}
-use Rattle.barrier_paper.specs.Document.{Weight, LineText, CaseText, BarrierDocument, signed, weight-of, line-of, barrier-of, WeightFits, LineFits, CaseFits, StepFits, BarrierFormed, lines-in, way-bit, weight-word, line-words, joined, case-words, match-word, step-words, barrier-words, barrier-paper, weight-said}
-use Rattle.barrier_paper.specs.Windows.{from-nth, before, part, case-part, line-part, steps-part, before-steps, word-weight, part-weight, part-strict, part-line, line-said}
+use Rattle.lines.specs.OfLine.{line-meant}
+use Rattle.lines.specs.declared.line.LineWeights.{LineWeights}
+use Rattle.barrier_paper.specs.Document.{Weight, LineText, CaseText, BarrierDocument, signed, weight-of, line-of, barrier-of, WeightFits, LineFits, CaseFits, StepFits, BarrierFormed, lines-in, weight-word, line-words, joined, case-words, step-words, barrier-words, barrier-paper, weight-said}
+use Rattle.barrier_paper.specs.Windows.{from-nth, part, count-kind, case-part, line-part, steps-part, before-steps, word-weight, part-weight, part-strict, part-line, line-said}
 use Rattle.barrier_paper.proofs.Seeking.{before-le, seek-found}
 use Rattle.barrier_paper.proofs.Summing.{same-line, said-short}
 use Rattle.barrier_paper.proofs.WordKinds.{line-kind, weight-kind, weight-says, weights-of-line, lines-of-case, cases-kinds, step-kind, steps-kinds, words-small}
-use Rattle.barrier_paper.proofs.Blocks.{Blocks, Stops, skip, go-on, stop, nth-block, past-blocks}
+use Rattle.barrier_paper.proofs.Blocks.{Blocks, Stops, skip, go-on, stop, nth-block, past-blocks, count-none, count-blocks}
 
 -- ---- sums of weight words
 
@@ -90,13 +91,16 @@ module _ (tanks : ℕ) where
       sums : (a s x y v : ℤ) → a ≡ pos 0 → s ≡ x +ℤ y → x ≡ pos 0 → y ≡ v → a +ℤ s ≡ v
       sums a s x y v p q m n = omega (arith, ints)
 
+  pub strict-bit : (t : LineText) → part-strict (line-words t) ≡ t .strict
+  strict-bit t = at (t .strict)
+    where
+      at : (b : Bool) → eqb (field (7 * 2 ^ 28 + cond b 1 0) 0 1) 1 ≡ b
+      at true = refl
+      at false = refl
+
   -- the words of a line say the line
   pub line-says : (t : LineText) → LineFits tanks t → part-line (line-words t) ≡ line-of t
-  line-says t h = same-line _ _ (left-weights t h) (right-weights t h) (strict-bit (t .strict))
-    where
-      strict-bit : (b : Bool) → eqb (field (7 * 2 ^ 28 + cond b 1 0) 0 1) 1 ≡ b
-      strict-bit true = refl
-      strict-bit false = refl
+  line-says t h = same-line _ _ (left-weights t h) (right-weights t h) (strict-bit t)
 
   line-blocks : Blocks 7 line-words (LineFits tanks)
   line-blocks = record {
@@ -124,16 +128,19 @@ module _ (tanks : ℕ) where
   line-of-case-says c h l =
       ⊎-elim
       (λ (in′ : l < length c).
-        ap part-line (line-of-case c h l no-text in′)
-        ∙ (line-says (getD c l no-text) (all-getD (LineFits tanks) c l no-text in′ (h .lines-fit))
-        ∙ sym (getD-map line-of c l no-text no-line in′)))
+      ap part-line (line-of-case c h l no-text in′)
+      ∙ (line-says (getD c l no-text) (all-getD (LineFits tanks) c l no-text in′ (h .lines-fit))
+      ∙ sym (getD-map line-of c l no-text no-line in′)))
       (λ (past : length c ≤ l).
-        ap part-line (past-lines c h l past)
-        ∙ sym (getD-past (map line-of c) l no-line (omega (arith, length-map c line-of))))
+      ap part-line (past-lines c h l past)
+      ∙ sym (getD-past (map line-of c) l no-line (omega (arith, length-map c line-of))))
       (cases-lt l (length c))
     where
       no-text : LineText
       no-text = record { strict = false; lefts = []; rights = [] }
+
+  pub lines-counted : (c : CaseText) → CaseFits tanks c → count-kind 7 (case-words c) ≡ length c
+  lines-counted c h = count-none 7 6 6 (6 * 2 ^ 28 ∷ []) (joined line-words c) ((omega arith, omega arith), tt) (λ j a b e. omega arith) ∙ count-blocks line-blocks c (h .lines-fit)
 
   -- ---- cases
 
@@ -209,14 +216,26 @@ module _ (tanks valves : ℕ) (d : BarrierDocument) (f : BarrierFormed tanks val
   line-read i l =
       said-short (line-part l (case-part i (words bs))) (omega (arith, line-part-le i l (words bs), ap length paper-words, f .few-words))
       ∙ ⊎-elim
-        (λ (in′ : i < length (d .cases)).
-          ap (λ ws. part-line (line-part l ws)) (case-found i in′)
-          ∙ (line-of-case-says tanks (getD (d .cases) i []) (all-getD (CaseFits tanks) (d .cases) i [] in′ (f .cases-fit)) l
-          ∙ ap (λ c. line-at c l) (sym (getD-map (map line-of) (d .cases) i [] [] in′))))
-        (λ (past : length (d .cases) ≤ i).
-          ap (λ ws. part-line (line-part l ws)) (past-cases i past)
-          ∙ ap (λ c. line-at c l) (sym (getD-past (barrier-of d) i [] (omega (arith, length-map (d .cases) (map line-of))))))
-        (cases-lt i (length (d .cases)))
+      (λ (in′ : i < length (d .cases)).
+      ap (λ ws. part-line (line-part l ws)) (case-found i in′)
+      ∙ (line-of-case-says tanks (getD (d .cases) i []) (all-getD (CaseFits tanks) (d .cases) i [] in′ (f .cases-fit)) l
+      ∙ ap (λ c. line-at c l) (sym (getD-map (map line-of) (d .cases) i [] [] in′))))
+      (λ (past : length (d .cases) ≤ i).
+      ap (λ ws. part-line (line-part l ws)) (past-cases i past)
+      ∙ ap (λ c. line-at c l) (sym (getD-past (barrier-of d) i [] (omega (arith, length-map (d .cases) (map line-of))))))
+      (cases-lt i (length (d .cases)))
+
+  -- so the weights that are read there are those of that line
+  pub weights-read : (i l : ℕ) (case line : List ℕ) (x : LineWeights) → words case ≡ case-part i (words bs) → words line ≡ line-part l (words case) → line-meant x ≡ line-said (words line) → line-meant x ≡ line-at (case-at (barrier-of d) i) l
+  weights-read i l case line x a b e = e ∙ (ap line-said (b ∙ ap (line-part l) a) ∙ line-read i l)
+
+  -- how many lines case i has
+  pub lines-found : (i : ℕ) → count-kind 7 (case-part i (words bs)) ≡ lines-in (d .cases) i
+  lines-found i =
+      ⊎-elim
+      (λ (in′ : i < length (d .cases)). ap (count-kind 7) (case-found i in′) ∙ lines-counted tanks (getD (d .cases) i []) (all-getD (CaseFits tanks) (d .cases) i [] in′ (f .cases-fit)))
+      (λ (past : length (d .cases) ≤ i). ap (count-kind 7) (past-cases i past) ∙ ap length (sym (getD-past (d .cases) i [] past)))
+      (cases-lt i (length (d .cases)))
 
   -- the steps, and where they begin
   pub steps-found : steps-part (words bs) ≡ joined step-words (d .steps)
