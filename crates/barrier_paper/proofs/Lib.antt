@@ -9,3 +9,6 @@ pub mod BarrierExact
 pub mod Seeking
 pub mod Saying
 pub mod Summing
+pub mod WordKinds
+pub mod Blocks
+pub mod Parts

@@ -1,17 +1,17 @@
 -- Steps of a search for a word of a kind.
 use mathlib.Core.Path.{_≡_, refl, sym, ap, _∙_}
-use mathlib.Core.Logic.{_⊎_, inl, inr}
+use mathlib.Core.Logic.{_⊎_, inl, inr, ⊎-elim}
 use mathlib.Core.Bool.{true, false, cond, _||_}
-use mathlib.Core.List.{List, [], _∷_}
+use mathlib.Core.List.{List, [], _∷_, _++_}
 use Prim.Native.Nat.{ℕ, zero, suc, _+_, _-_, _*_, _≤_}
 use native.Mathlib.Omega.{arith}
 use native.Mathlib.Numerals.{one-add}
 use lib.Dec.{eqb}
 use lib.ListN.{length, take, length-take}
-use Rattle.std.proofs.shelf.Tests.{eq-eqb, ne-eqb, cond-true, cond-false, or-left, or-right, or-from}
+use Rattle.std.proofs.shelf.Tests.{eq-eqb, ne-eqb, cond-true, cond-false, or-left, or-right, or-from, cases-eq}
 use Rattle.words.specs.Words.{words, kind}
 use Rattle.words.proofs.Laws.{length-words}
-use Rattle.barrier_paper.specs.Windows.{from-nth, before, part}
+use Rattle.barrier_paper.specs.Windows.{from-nth, before, part, steps-part, before-steps}
 
 pub seek-pass : (k n w : ℕ) (ws : List ℕ) → (kind w ≡ k → ⊥) → from-nth k n (w ∷ ws) ≡ from-nth k n ws
 seek-pass k zero w ws ne = cond-false (eqb (kind w) k) _ _ (ne-eqb (kind w) k ne)
@@ -55,3 +55,16 @@ take-part k n w ws vs e l =
 
 pub part-inside : (k n w : ℕ) (ws bs : List ℕ) → words bs ≡ w ∷ ws → n ≡ length (before k ws) → 4 * (1 + n) ≤ length bs
 part-inside k n w ws bs e l = omega (arith, ap length e, before-le k ws, length-words bs)
+
+-- a paper is what comes before its steps, and then the steps
+pub steps-last : (ws : List ℕ) → before-steps ws ++ steps-part ws ≡ ws
+steps-last [] = refl
+steps-last (w ∷ ws) =
+    ⊎-elim
+    (λ e.
+      ap (λ vs. vs ++ from-nth 10 0 (w ∷ ws)) (before-ends 10 (kind w) w ws refl (inl e))
+      ∙ seek-found 10 w ws e)
+    (λ ne.
+      ap (λ vs. vs ++ from-nth 10 0 (w ∷ ws)) (before-goes 10 w ws ne ne)
+      ∙ (ap (λ vs. w ∷ (before 10 ws ++ vs)) (seek-pass 10 0 w ws ne) ∙ ap (λ vs. w ∷ vs) (steps-last ws)))
+    (cases-eq (kind w) 10)

@@ -6,10 +6,10 @@ use Prim.Native.Nat.{ℕ, zero, suc}
 use lib.Dec.{eqb, leb}
 use lib.ListN.{length}
 use lib.IntN.{ℤ, pos, _+ℤ_}
-use Rattle.words.specs.Words.{kind, field, rest}
+use Rattle.words.specs.Words.{kind, field}
 use Rattle.paper.specs.Limits.{most-evidence-words}
 use Rattle.barriers.specs.Lines.{Line, no-line}
-use Rattle.barrier_paper.specs.Document.{Weight, signed, weight-said}
+use Rattle.barrier_paper.specs.Document.{signed, weight-said}
 
 -- the words from word number n, from 0, of kind k on
 abbrev pub from-nth : ℕ → ℕ → List ℕ → List ℕ

@@ -41,7 +41,7 @@ pub fn seek(bytes: &[u8], kind: u32, n: usize) -> &[u8]
 }
 
 // How many words come before the first that ends a part: one of the kind, or a step.
-pub fn count_before(bytes: &[u8], kind: u32) -> usize
+fn count_before(bytes: &[u8], kind: u32) -> usize
     ensures { λ r. ⌜ r ≡ length (spec.before kind (words (now (bytes .entry)))) ⌝ }
 {
     let mut rest = bytes;

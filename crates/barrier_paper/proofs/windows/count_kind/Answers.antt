@@ -1,5 +1,4 @@
 use native.Mathlib.Omega.{arith}
-use lib.ListN.{length}
 use Rattle.words.proofs.Laws.{length-words}
 use Rattle.barrier_paper.proofs.windows.count_kind.Needs as need
 

@@ -1,11 +1,9 @@
-use mathlib.Core.Path.{refl, sym, ap, _∙_}
+use mathlib.Core.Path.{refl, ap, _∙_}
 use Rattle.std.proofs.shelf.Results.{err-from-errBy}
-use Rattle.std.specs.declared.result.Result.the-variants.{Err}
 use Rattle.words.specs.Words.{words}
 use Rattle.paper.specs.Limits.{most-evidence-words}
 use Rattle.paper.specs.Runs.{whole}
 use Rattle.barrier_paper.specs.Form.{barrier-step}
-use Rattle.barrier_paper.specs.OfBarrier.{barrier-answer}
 use Rattle.barrier_paper.proofs.Saying.{read-good, read-due, read-sized, cases-counted}
 use Rattle.barrier_paper.proofs.barrier_paper.BarrierPaper.read.Needs as need
 
