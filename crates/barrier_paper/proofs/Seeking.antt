@@ -62,9 +62,9 @@ steps-last [] = refl
 steps-last (w ∷ ws) =
     ⊎-elim
     (λ e.
-      ap (λ vs. vs ++ from-nth 10 0 (w ∷ ws)) (before-ends 10 (kind w) w ws refl (inl e))
-      ∙ seek-found 10 w ws e)
+    ap (λ vs. vs ++ from-nth 10 0 (w ∷ ws)) (before-ends 10 (kind w) w ws refl (inl e))
+    ∙ seek-found 10 w ws e)
     (λ ne.
-      ap (λ vs. vs ++ from-nth 10 0 (w ∷ ws)) (before-goes 10 w ws ne ne)
-      ∙ (ap (λ vs. w ∷ (before 10 ws ++ vs)) (seek-pass 10 0 w ws ne) ∙ ap (λ vs. w ∷ vs) (steps-last ws)))
+    ap (λ vs. vs ++ from-nth 10 0 (w ∷ ws)) (before-goes 10 w ws ne ne)
+    ∙ (ap (λ vs. w ∷ (before 10 ws ++ vs)) (seek-pass 10 0 w ws ne) ∙ ap (λ vs. w ∷ vs) (steps-last ws)))
     (cases-eq (kind w) 10)

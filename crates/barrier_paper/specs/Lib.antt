@@ -2,6 +2,5 @@ pub mod Limits
 pub mod Document
 pub mod Form
 pub mod OfBarrier
-pub mod OfWay
 pub mod Windows
 pub mod Inverse

@@ -5,15 +5,11 @@ ghost use Prim.Native.Nat.{_≤_, _<_};
 ghost use Rattle.plant.specs.Limits.{most-valves};
 ghost use Rattle.barrier_paper.specs.Limits.{most-cases, most-lines, most-factor};
 ghost use Rattle.barrier_paper.specs.Document.{step-said, match-said};
-ghost use Rattle.barrier_paper.specs.OfWay.{way-meant};
+ghost use Rattle.lines.specs.OfWay.{way-meant};
+use lines::Way;
+use lines::WayDebug;
+use lines::WayPartialEq;
 use words::word::field_of;
-
-// Forward: a firing changes the second filling of a pair. Backward: it leads to the first.
-#[derive(Clone, Copy, Debug, PartialEq)]
-pub enum Way {
-    Forward,
-    Backward,
-}
 
 // A step from a case by a valve to a case, without its matches.
 #[derive(Clone, Copy, Debug, PartialEq)]
