@@ -81,7 +81,14 @@ impl BarrierForm {
     fn in_phase(self, phase: Phase) -> BarrierForm
         ensures { result ≡ spec.in_phase phase self }
     {
-        BarrierForm { phase, ..self }
+        let lines = self.lines;
+        BarrierForm {
+            tanks: self.tanks,
+            valves: self.valves,
+            phase,
+            last: self.last,
+            lines,
+        }
     }
 
     fn first_case(self, at: usize, w: u32) -> Result<BarrierForm, PaperFault>
@@ -102,10 +109,13 @@ impl BarrierForm {
         if self.last >= MOST_CASES - 1 {
             return Err(PaperFault::Count(at));
         }
+        let lines = self.lines;
         Ok(BarrierForm {
+            tanks: self.tanks,
+            valves: self.valves,
             phase: Phase::Case,
             last: self.last + 1,
-            ..self
+            lines,
         })
     }
 
@@ -116,14 +126,16 @@ impl BarrierForm {
             return Err(PaperFault::Unnamed(at));
         }
         let count = self.lines_of(self.last);
-        if count as usize >= MOST_LINES {
+        if count >= MOST_LINES {
             return Err(PaperFault::Count(at));
         }
         let lines = with_count(self.lines, self.last, count + 1);
         Ok(BarrierForm {
+            tanks: self.tanks,
+            valves: self.valves,
             phase: Phase::Left { least: 0 },
+            last: self.last,
             lines,
-            ..self
         })
     }
 

@@ -1,4 +1,6 @@
 // The form of barrier papers, and their cases, lines and steps as parts of the paper.
+#![tactic(auto)]
+
 pub mod barrier_paper;
 pub mod exact;
 pub mod form;

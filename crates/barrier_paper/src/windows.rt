@@ -44,16 +44,16 @@ fn count_before(bytes: &[u8], kind: u32) -> usize
     ensures { result ≡ length (spec.before kind (words bytes.now)) }
 {
     let mut rest = bytes;
-    let mut passed = 0;
+    let mut count = 0;
     while let Some((w, after)) = first_word(rest) {
         let found = kind_of(w);
         if found == kind || found == 10 {
-            return passed;
+            return count;
         }
-        passed += 1;
+        count += 1;
         rest = after;
     }
-    passed
+    count
 }
 
 // The first word, and what follows it up to the next word of the kind or a step.

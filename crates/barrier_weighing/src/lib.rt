@@ -1,4 +1,6 @@
 // The weighing of a barrier paper on any plant.
+#![tactic(auto)]
+
 mod cases;
 pub mod faults;
 mod holding;

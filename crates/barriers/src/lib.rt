@@ -1,4 +1,6 @@
 // The theory of barriers: an accepted barrier excludes every walk. Each function holds the theorem that its name tells.
+#![tactic(auto)]
+
 ghost use Rattle.barriers.specs.Theorems.{GoodImplies, Homogeneous, LocallyClosedInvariant, AcceptedSeparates, SeparatorExcludes, AcceptedExcludes};
 ghost use Rattle.barriers.specs.Theorems.{LineDecided, BarrierDecided, GoodDecided, AcceptanceDecided};
 

@@ -1,33 +1,31 @@
--- A dossier is answered by JOINED only where its plant has a walk from its source to its target, and by CUT OFF only where it has none.
-use Rattle.std.proofs.Common.{◌≡◌, ℕ, ◌*◌, ◌<◌, List, IfOk, Ok, Err, codes, Result, sym, refl, ◌∙◌, subst, arith}
+-- A dossier is answered by JOINED only where its plant has a walk from its source to its target.
+use Rattle.std.proofs.Common.{◌≡◌, ℕ, ◌*◌, ◌<◌, List, [], ◌∷◌, ◌++◌, length, drop, IfOk, Ok, Err, codes, Result, sym, refl, ap, ◌∙◌, subst, arith}
+use Rattle.std.specs.List.{AllByRecursion as All, prefix_len}
 use Rattle.std.proofs.ByRecursion.{All-drop}
-use Rattle.plant.specs.Net.{Bounded}
+use Rattle.plant.specs.Net.{Net, Bounded}
 use Rattle.words.specs.Words.{words, rest}
-use Rattle.words.specs.Faults.{raised}
+use Rattle.words.specs.Faults.{onward, raised}
 use Rattle.words.specs.Inverse.{Bytes}
-use Rattle.paper.specs.Arcs.{PlantDocument, plant_of, plant_document}
+use Rattle.paper.specs.Arcs.{PlantDocument, plant_of, plant_document, arc_of}
 use Rattle.words.specs.declared.faults.PaperFault.{PaperFault}
 use Rattle.paper.specs.PlantForm.{plant_form, plant_read}
 use Rattle.paper.specs.Bounds.{paper_bounded}
 use Rattle.paper.proofs.Steps.{through}
 use Rattle.paper.proofs.Rises.{opened_read}
 use Rattle.weighing.specs.declared.faults.Verdict.{Verdict}
-use Rattle.weighing.specs.declared.faults.Verdict.TheVariants.{Joined, CutOff}
+use Rattle.weighing.specs.declared.faults.Verdict.TheVariants.{Joined}
 use Rattle.weighing.specs.Weighing.{weighs}
-use Rattle.weighing.proofs.Asking.{raised_ok}
-use Rattle.weighing.proofs.Accepting.{only_accepted, accepted_walk}
-use Rattle.weighing.proofs.Barring.{barrier_only_accepted, accepted_apart}
+use Rattle.weighing.proofs.Accepting.{raised_ok, only_accepted, accepted_walk}
 use Rattle.dossier.specs.declared.faults.DossierFault.{DossierFault}
 use Rattle.dossier.specs.Line.{line_of}
 use Rattle.dossier.specs.declared.faults.DossierFault.TheVariants.{Input, Plant, Source, Target, Weighing}
 use Rattle.dossier.specs.Faults.{sized}
-use Rattle.std.specs.List.{prefix_len}
 use Rattle.dossier.specs.declared.parts.Run.{Run}
 use Rattle.dossier.specs.declared.parts.Run.TheVariants.{Before, Of}
 use Rattle.dossier.specs.Parts.{source_kind, target_kind, goes_on, after, from_source, from_target, plant_part, source_part, target_part, evidence_part}
 use Rattle.dossier.specs.Fillings.{fill_read}
 use Rattle.dossier.specs.Judging.{judged}
-use Rattle.dossier.specs.Shown.{Asks, HasWalk, HasNoWalk}
+use Rattle.dossier.specs.Shown.{Asks, HasWalk}
 
 -- the plant of a paper that is read without fault keeps the limits
 read_bounded : (bs : List ℕ) (d : PlantDocument) → plant_read bs ≡ Ok d → Bounded (plant_of d)
@@ -45,19 +43,15 @@ module _ (bs : List ℕ) (small : Bytes bs) where
   evidence_small : Bytes (evidence_part bs)
   evidence_small = after_small (Of target_kind) (from_target bs) (after_small (Of source_kind) (from_source bs) (after_small (Before source_kind) bs small))
 
-  -- what was weighed to a verdict
-  record Weighed (v : Verdict) : Type 0 where
-    asks : Asks bs
-    bounded : Bounded (plant_of asks.plant)
-    verdict : weighs (plant_of asks.plant) asks.source asks.target (evidence_part bs) ≡ Ok v
-
-  weighed_to : (v : Verdict) → judged bs ≡ Ok v → Weighed v
-  weighed_to v p =
+  pub joined_walk : judged bs ≡ Ok Joined → HasWalk bs
+  joined_walk p =
       let one = through (raised Input (sized bs)) _ _ p in
       let two = through (raised Plant (plant_read (plant_part bs))) _ _ one.2 in
       let three = through (raised Source (fill_read 0 (words (source_part bs)))) _ _ two.2 in
       let four = through (raised Target (fill_read 0 (words (target_part bs)))) _ _ three.2 in
       let plant_is = raised_ok Plant (plant_read (plant_part bs)) two.0 two.1 in
+      let bounded = read_bounded (plant_part bs) two.0 plant_is in
+      let joined = raised_ok Weighing (weighs (plant_of two.0) three.0 four.0 (evidence_part bs)) Joined four.2 in
       record {
         asks = record {
           plant = two.0;
@@ -67,34 +61,13 @@ module _ (bs : List ℕ) (small : Bytes bs) where
           source_is = raised_ok Source (fill_read 0 (words (source_part bs))) three.0 three.1;
           target_is = raised_ok Target (fill_read 0 (words (target_part bs))) four.0 four.1;
         };
-        bounded = read_bounded (plant_part bs) two.0 plant_is;
-        verdict = raised_ok Weighing (weighs (plant_of two.0) three.0 four.0 (evidence_part bs)) v four.2;
+        walk = (accepted_walk (plant_of two.0) bounded three.0 four.0 (evidence_part bs) (only_accepted (plant_of two.0) bounded three.0 four.0 (evidence_part bs) evidence_small joined)).walk;
       }
 
-  pub joined_walk : judged bs ≡ Ok Joined → HasWalk bs
-  joined_walk p =
-      let w = weighed_to Joined p in
-      let N = plant_of w.asks.plant in
-      let accepted = only_accepted N w.bounded w.asks.source w.asks.target (evidence_part bs) evidence_small w.verdict in
-      record { asks = w.asks; walk = (accepted_walk N w.bounded w.asks.source w.asks.target (evidence_part bs) accepted).walk }
-
-  pub cut_off_none : judged bs ≡ Ok CutOff → HasNoWalk bs
-  cut_off_none p =
-      let w = weighed_to CutOff p in
-      let N = plant_of w.asks.plant in
-      let accepted = barrier_only_accepted N w.bounded w.asks.source w.asks.target (evidence_part bs) evidence_small w.verdict in
-      record { asks = w.asks; none = accepted_apart N w.bounded w.asks.source w.asks.target (evidence_part bs) accepted }
-
--- only a verdict is printed so
+-- only the verdict is printed so
 pub says_joined : (r : Result Verdict DossierFault) → line_of r ≡ codes "JOINED\n" → r ≡ Ok Joined
 says_joined (Ok Joined) e = refl
-says_joined (Ok CutOff) e = absurd (let z : ◌≡◌ {A = ℕ} 67 74 = cc in omega arith)
 says_joined (Err f) e = absurd (let z : ◌≡◌ {A = ℕ} 82 74 = cc in omega arith)
-
-pub says_cut_off : (r : Result Verdict DossierFault) → line_of r ≡ codes "CUT OFF\n" → r ≡ Ok CutOff
-says_cut_off (Ok Joined) e = absurd (let z : ◌≡◌ {A = ℕ} 74 67 = cc in omega arith)
-says_cut_off (Ok CutOff) e = refl
-says_cut_off (Err f) e = absurd (let z : ◌≡◌ {A = ℕ} 82 67 = cc in omega arith)
 
 -- what holds of a value that was made
 pub made_so : {X Y : Type 0} (r : Result X Y) (P Q : X → Type 0) → ((x : X) → P x → Q x) → IfOk r P → IfOk r Q

@@ -3,7 +3,7 @@ use Rattle.std.specs.Prelude.{ℕ, List, ◌++◌, Ok, Err, codes, decimal, Resu
 use Rattle.words.specs.declared.faults.Part.{Part}
 use Rattle.words.specs.declared.faults.Part.TheVariants.{Question, Words, Paper, Weighing}
 use Rattle.weighing.specs.declared.faults.Verdict.{Verdict}
-use Rattle.weighing.specs.declared.faults.Verdict.TheVariants.{Joined, CutOff}
+use Rattle.weighing.specs.declared.faults.Verdict.TheVariants.{Joined}
 use Rattle.dossier.specs.declared.faults.DossierFault.{DossierFault}
 use Rattle.dossier.specs.declared.answer.Answer.{Answer}
 use Rattle.dossier.specs.declared.answer.Answer.TheVariants.{Accepted, Refused}
@@ -21,7 +21,6 @@ part_name Weighing = codes "WEIGHING"
 
 abbrev pub text_of : Answer → List ℕ
 text_of (Accepted Joined) = codes "JOINED"
-text_of (Accepted CutOff) = codes "CUT OFF"
 text_of (Refused r) = codes "REFUSED " ++ (decimal r.number ++ (codes " AT " ++ (decimal r.place ++ (codes " IN " ++ part_name r.part))))
 
 -- the text and a newline

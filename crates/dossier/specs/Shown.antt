@@ -1,5 +1,4 @@
--- What it means that a dossier is answered by JOINED or by CUT OFF: the plant on its plant paper has a walk from its source to its
--- target, or has none.
+-- What it means that a dossier is answered by JOINED: a walk of the plant on its plant paper, from its source to its target.
 use Rattle.std.specs.Prelude.{◌≡◌, ℕ, List, Ok}
 use Rattle.plant.specs.Walk.{Walk}
 use Rattle.words.specs.Words.{words}
@@ -21,8 +20,3 @@ pub record Asks (bs : List ℕ) : Type 0 where
 pub record HasWalk (bs : List ℕ) : Type 0 where
   pub asks : Asks bs
   pub walk : Walk (plant_of asks.plant) asks.source asks.target
-
--- there is none
-pub record HasNoWalk (bs : List ℕ) : Type 0 where
-  pub asks : Asks bs
-  pub none : Walk (plant_of asks.plant) asks.source asks.target → ⊥

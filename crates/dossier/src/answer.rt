@@ -1,7 +1,7 @@
 // The answer to a dossier, and the line that is printed.
 ghost use Rattle.std.specs.Prelude.{◌≡◌, IfOk, Some, string_bytes, codes};
 ghost use Rattle.dossier.specs.Judging.{judged};
-ghost use Rattle.dossier.specs.Shown.{HasWalk, HasNoWalk};
+ghost use Rattle.dossier.specs.Shown.{HasWalk};
 ghost use Rattle.dossier.specs.Line.{answer_of, part_name, text_of, line_of};
 
 use crate::faults::DossierFault;
@@ -47,7 +47,6 @@ impl fmt::Display for Answer {
     fn fmt<W: fmt::Write>(&self, f: &mut fmt::Formatter<W>) -> fmt::Result {
         match self {
             Answer::Accepted(Verdict::Joined) => write!(f, "JOINED"),
-            Answer::Accepted(Verdict::CutOff) => write!(f, "CUT OFF"),
             Answer::Refused(refusal) => {
                 let number = refusal.number;
                 let place = refusal.place;
@@ -67,10 +66,9 @@ fn written(heap: Global, input: &[u8]) -> Result<String, AllocError>
 }
 
 // The line that a dossier is answered with, its newline included. It says JOINED only where the plant has a walk from the source
-// to the target, and CUT OFF only where it has none.
+// to the target.
 pub fn line(heap: Global, input: &[u8]) -> Result<String, AllocError>
     ensures joined { IfOk result (λ s. string_bytes s ≡ codes "JOINED\n" → HasWalk input.now) }
-    ensures cut_off { IfOk result (λ s. string_bytes s ≡ codes "CUT OFF\n" → HasNoWalk input.now) }
     ensures answer { IfOk result (λ s. string_bytes s ≡ line_of (judged input.now)) }
 {
     written(heap, input)

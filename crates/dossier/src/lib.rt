@@ -1,4 +1,6 @@
 // One call from the bytes of a dossier to the line that is printed.
+#![tactic(auto)]
+
 pub mod answer;
 pub mod faults;
 pub mod filling;

@@ -1,4 +1,6 @@
 // Reads a dossier from standard input and prints the line that judges it.
+#![tactic(auto)]
+
 ghost use Rattle.std.specs.Prelude.{◌≤◌, IfOk, vec_len};
 
 use std::alloc::Global;

@@ -1,17 +1,16 @@
 // What each tank holds in a filling.
-ghost use Rattle.std.specs.Prelude.{◌≡◌, ℕ, ◌<◌, ◌≤◌, min, length, slice_index};
+ghost use Rattle.std.specs.Prelude.{ℕ, ◌<◌, ◌≤◌, min, slice_index};
 ghost use Rattle.plant.specs.Limits.{most_amount, most_tanks};
 ghost use Rattle.plant.specs.Walk.{held};
 ghost use Rattle.lines.specs.Tables.{Tabulates};
 
 use plant::limits::{MOST_AMOUNT, MOST_TANKS};
 
-// No amount is above the limit of fillings, so that sums of them stay small; there is one for each tank that a plant can have.
+// No amount is above the limit of fillings, so that sums of them stay small.
 #[derive(Clone, Copy)]
 pub struct Amounts {
     pub amounts: [u32; MOST_TANKS],
     ghost small: { (r : ℕ) → slice_index amounts r ≤ most_amount },
-    ghost long: { length amounts ≡ most_tanks },
 }
 
 impl Amounts {

@@ -1,4 +1,6 @@
 // A line's weights as numbers: its sides, whether it holds of a pair of fillings, and whether a match of two lines is good.
+#![tactic(auto)]
+
 pub mod amounts;
 pub mod columns;
 pub mod line;

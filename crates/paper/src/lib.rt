@@ -1,4 +1,6 @@
 // The forms of papers, and the plant that a plant paper is.
+#![tactic(auto)]
+
 pub mod exact;
 pub mod form;
 pub mod limits;

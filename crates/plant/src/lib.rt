@@ -1,4 +1,6 @@
 // Plants: tanks and valves, the four questions that can be put to one, and the plants that are made from others.
+#![tactic(auto)]
+
 pub mod lent;
 pub mod limits;
 pub mod narrowed;

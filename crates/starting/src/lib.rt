@@ -1,4 +1,6 @@
 // The greatest starting part of a set of valves, computed.
+#![tactic(auto)]
+
 pub mod laws;
 pub mod rounds;
 

@@ -1,10 +1,6 @@
 // Trials at each limit and one past it, run on the calls that others make. There is no code here besides the tests.
-#[cfg(test)]
-mod barriers;
-#[cfg(test)]
-mod barrings;
-#[cfg(test)]
-mod matchings;
+#![tactic(auto)]
+
 #[cfg(test)]
 mod papers;
 #[cfg(test)]

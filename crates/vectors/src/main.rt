@@ -1,4 +1,6 @@
 // Judges each dossier of a table, and says how many get the line that the table expects.
+#![tactic(auto)]
+
 mod hex;
 mod outcome;
 mod table;

@@ -1,4 +1,6 @@
 // The theory of walks: which totals account for one, which sets of valves start. Each function holds the theorem that its name tells.
+#![tactic(auto)]
+
 ghost use Rattle.walks.specs.Theorems.{TotalsGiveAWalk, WalksGiveTotals, WalksTurn, WalksCarryOver, ClosingAddsNoWalk, RoundsFindTheGreatestPart, SetsStartWhole};
 
 // Totals that meet the four conditions account for a walk, which fires only the totalled valves.

@@ -1,5 +1,5 @@
 -- The four conditions in their order.
-use Rattle.std.proofs.Common.{◌≡◌, ℕ, Bool, List, Ok, Option, Result, ap, ◌∙◌}
+use Rattle.std.proofs.Common.{◌≡◌, ℕ, Bool, List, Some, None, Ok, Err, Option, Result, sym, ap, ◌∙◌}
 use mathlib.Core.Path.{fun_ext}
 use Rattle.plant.specs.Net.{Net, turned}
 use Rattle.plant.specs.Walk.{Marking, held}
@@ -10,7 +10,7 @@ use Rattle.weighing.specs.declared.faults.Verdict.{Verdict}
 use Rattle.weighing.specs.declared.faults.Verdict.TheVariants.{Joined}
 use Rattle.weighing.specs.declared.faults.TotalsFault.{TotalsFault}
 use Rattle.weighing.specs.declared.faults.TotalsFault.TheVariants.{Closed, Unbalanced, NoStart, NoEnd}
-use Rattle.words.specs.Faults.{refusing}
+use Rattle.weighing.specs.Question.{refusing}
 use Rattle.weighing.specs.Judgement.{closed_at, unbalanced, judged}
 
 -- the judgement by what the four searches find

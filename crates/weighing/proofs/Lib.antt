@@ -1,6 +1,4 @@
-pub mod Conditions
 pub mod Sets
 pub mod Judging
-pub mod Asking
-pub mod Barring
+pub mod Conditions
 pub mod Accepting

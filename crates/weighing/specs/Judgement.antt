@@ -1,5 +1,5 @@
 -- The judgement of totals on a plant: the first of the four conditions that fails, at its lowest place.
-use Rattle.std.specs.Prelude.{ℕ, ◌+◌, ◌*◌, cond, not, List, [], ◌∷◌, Some, None, Ok, Option, Result, ◌==◌}
+use Rattle.std.specs.Prelude.{ℕ, ◌+◌, ◌*◌, cond, not, List, [], ◌∷◌, Some, None, Ok, Err, Option, Result, ◌==◌}
 use Rattle.plant.specs.Net.{Net, turned}
 use Rattle.plant.specs.Walk.{Firing, held}
 use Rattle.plant.specs.Firings.{given, named}
@@ -9,7 +9,7 @@ use Rattle.weighing.specs.declared.faults.Verdict.{Verdict}
 use Rattle.weighing.specs.declared.faults.Verdict.TheVariants.{Joined}
 use Rattle.weighing.specs.declared.faults.TotalsFault.{TotalsFault}
 use Rattle.weighing.specs.declared.faults.TotalsFault.TheVariants.{Closed, Unbalanced, NoStart, NoEnd}
-use Rattle.words.specs.Faults.{refusing}
+use Rattle.weighing.specs.Question.{refusing}
 
 -- the word, counted from `at`, of the first total whose valve is closed
 abbrev pub closed_at : Net → ℕ → List Firing → Option ℕ

@@ -1,17 +1,14 @@
 // Why a weighing refuses. The upper fault carries the lower one whole.
 ghost use Rattle.std.specs.Prelude.{◌≡◌};
-ghost use Rattle.weighing.specs.Faults.{of_question, of_totals, of_barrier_paper, of_weighing};
+ghost use Rattle.weighing.specs.Faults.{of_question, of_totals, of_weighing};
 ghost use Rattle.weighing.specs.declared.faults.WeighingFault.TheVariants.{Question as OfQuestion, Paper as OfPaper, Totals as OfTotals};
 
-use barrier_rule::BarrierFault;
-use barrier_weighing::BarrierPaperFault;
 use words::{PaperFault, Part, Refusal};
 
-// What a paper that is accepted shows: that a walk leads from source to target, or that none does.
+// What a paper that is accepted shows.
 #[derive(Clone, Copy, Debug, PartialEq)]
 pub enum Verdict {
     Joined,
-    CutOff,
 }
 
 // One of the two fillings of a question.
@@ -43,7 +40,6 @@ pub enum WeighingFault {
     Question(QuestionFault),
     Paper(PaperFault),
     Totals(TotalsFault),
-    Barrier(BarrierFault),
 }
 
 impl From<QuestionFault> for WeighingFault {
@@ -67,17 +63,6 @@ impl From<TotalsFault> for WeighingFault {
 
     fn from(value: TotalsFault) -> WeighingFault {
         WeighingFault::Totals(value)
-    }
-}
-
-impl From<BarrierPaperFault> for WeighingFault {
-    ghost from_gives = { λ x y. y ≡ of_barrier_paper x };
-
-    fn from(value: BarrierPaperFault) -> WeighingFault {
-        match value {
-            BarrierPaperFault::Paper(fault) => WeighingFault::Paper(fault),
-            BarrierPaperFault::Barrier(fault) => WeighingFault::Barrier(fault),
-        }
     }
 }
 
@@ -125,7 +110,6 @@ impl WeighingFault {
             WeighingFault::Question(fault) => fault.refusal(),
             WeighingFault::Paper(fault) => fault.refusal(),
             WeighingFault::Totals(fault) => fault.refusal(),
-            WeighingFault::Barrier(fault) => fault.refusal(),
         }
     }
 }

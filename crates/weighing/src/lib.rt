@@ -1,5 +1,6 @@
 // The weighing of one evidence paper on any plant.
-pub mod evidence;
+#![tactic(auto)]
+
 pub mod faults;
 pub mod laws;
 pub mod question;
