@@ -26,7 +26,7 @@ def spelled(name):
     if name in APART:
         return APART[name]
     if name[0].isupper():
-        return "".join(part[:1].upper() + part[1:] for part in name.split("-"))
+        return "".join(part[:1].upper() + part[1:] for part in re.split("[-_]", name))
     return name.replace("-", "_")
 
 
@@ -40,7 +40,7 @@ def main():
     for path in antts:
         for line in texts[path].split("\n"):
             head = HEAD.match(line) or RECORD.match(line)
-            if head and "-" in head.group(1) and not head.group(1).startswith("--"):
+            if head and ("-" in head.group(1) or re.match("[A-Z].*_", head.group(1))) and not head.group(1).startswith("--"):
                 kind = goals if re.search(r":\s+goal\.", line) else fields if line.startswith(" ") else declared
                 kind.add(head.group(1))
     for path in antts + rts:

@@ -6,22 +6,22 @@ use Rattle.lines.specs.Limits.{most_weight_sum}
 use Rattle.barrier_paper.proofs.Summing.{part_within, zeros, zeros_small, same_line, said_short, said_long}
 use Rattle.barrier_paper.proofs.weights.line_weights.Goals as goal
 
-pub invariant-of-result : goal.invariant-of-result
-invariant-of-result c = (λ r. zeros_small r, (λ r. zeros_small r, tt))
+pub invariant_of-result : goal.invariant_of-result
+invariant_of-result c = (λ r. zeros_small r, (λ r. zeros_small r, tt))
 
-pub returns-then-line-gt-MOST-EVIDENCE-WORDS : goal.returns-then-line-gt-MOST-EVIDENCE-WORDS
-returns-then-line-gt-MOST-EVIDENCE-WORDS c =
+pub returns-then-line-gt-MOST_EVIDENCE_WORDS : goal.returns-then-line-gt-MOST_EVIDENCE_WORDS
+returns-then-line-gt-MOST_EVIDENCE_WORDS c =
     let bs = c.args.line.now in
-    same_line _ _ zeros zeros refl ∙ sym (said_long (words bs) (omega (arith, length_words bs, c.if-line-gt-MOST-EVIDENCE-WORDS.true)))
+    same_line _ _ zeros zeros refl ∙ sym (said_long (words bs) (omega (arith, length_words bs, c.if-line-gt-MOST_EVIDENCE_WORDS.true)))
 
-pub invariant-of-result-2 : goal.invariant-of-result-2
-invariant-of-result-2 c =
+pub invariant_of-result-2 : goal.invariant_of-result-2
+invariant_of-result-2 c =
     let bs = c.args.line.now in
-    let few : length (words bs) ≤ most_evidence_words = omega (arith, length_words bs, c.if-line-gt-MOST-EVIDENCE-WORDS.false) in
+    let few : length (words bs) ≤ most_evidence_words = omega (arith, length_words bs, c.if-line-gt-MOST_EVIDENCE_WORDS.false) in
     let Small : ℤ → Type 0 = λ z. nat_abs z ≤ most_weight_sum in
     (λ r. subst Small (sym (c.weights-left.ensures r)) (part_within 8 bs r few), (λ r. subst Small (sym (c.weights-right.ensures r)) (part_within 9 bs r few), tt))
 
 pub returns : goal.returns
 returns c =
     let bs = c.args.line.now in
-    same_line _ _ c.weights-left.ensures c.weights-right.ensures c.is-strict-strict.ensures ∙ sym (said_short (words bs) (omega (arith, length_words bs, c.if-line-gt-MOST-EVIDENCE-WORDS.false)))
+    same_line _ _ c.weights-left.ensures c.weights-right.ensures c.is_strict-strict.ensures ∙ sym (said_short (words bs) (omega (arith, length_words bs, c.if-line-gt-MOST_EVIDENCE_WORDS.false)))

@@ -12,8 +12,8 @@ loop-w-init c =
     let e = start_left c.new-reader.result c.args.part.now c.new-reader.ensures.at c.new-reader.ensures.bytes in
     (λ r h. started c.args.kind r (left c.new-reader.result) h ∙ ap (λ ws. part_weight c.args.kind ws r) e, c.new-reader.ensures.bytes, refl)
 
-pub add-weight-requires : goal.add-weight-requires
-add-weight-requires c = λ r h.
+pub add_weight-requires : goal.add_weight-requires
+add_weight-requires c = λ r h.
     let all : length (words c.args.part.now) ≤ most_evidence_words = omega (arith, length_words c.args.part.now) in
     let same = ap length c.loop-w.invariant.1 in
     let rest : length (left c.loop-w.reader) ≤ most_evidence_words = omega (arith, length-drop c.loop-w.reader.at (words c.loop-w.reader.bytes.now), length_words c.loop-w.reader.bytes.now) in
@@ -25,9 +25,9 @@ loop-w-preserved c =
     let told = c.in-Some.ensures in (
       λ r h. turn (get_or c.loop-w.out r (pos 0)) _ (word_weight k c.in-Some.w r) (part_weight k (left c.next.new.self) r) _
           (ap (λ ws. get_or c.loop-w.out r (pos 0) +ℤ part_weight k ws r) (sym told.cases.0) ∙ c.loop-w.invariant.0 r h)
-          (c.add-weight.ensures r h),
+          (c.add_weight.ensures r h),
       told.same ∙ c.loop-w.invariant.1,
-      c.add-weight.array_long,
+      c.add_weight.array_long,
     )
 
 pub returns : goal.returns
@@ -35,4 +35,4 @@ returns c =
     let k = c.args.kind in
     let out = c.loop-w.out in
     everywhere k (words c.args.part.now) out c.loop-w.invariant.2 (λ r h.
-    summed (get_or out r (pos 0)) _ (ap (λ ws. get_or out r (pos 0) +ℤ part_weight k ws r) (sym c.in-default.ensures.cases.0) ∙ c.loop-w.invariant.0 r h))
+    summed (get_or out r (pos 0)) _ (ap (λ ws. get_or out r (pos 0) +ℤ part_weight k ws r) (sym c.in_default.ensures.cases.0) ∙ c.loop-w.invariant.0 r h))

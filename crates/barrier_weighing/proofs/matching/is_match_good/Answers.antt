@@ -5,5 +5,5 @@ use Rattle.barrier_weighing.proofs.matching.is_match_good.Goals as goal
 
 pub returns : goal.returns
 returns c = λ N t reads inside.
-    let said = c.of-word-word.ensures in
-    good_said N (way_meant c.args.way) t c.args.from.now (line_meant c.args.to.now) c.args.w c.of-word-word.result.line c.of-word-word.result.p c.of-word-word.result.q c.index-from-word.result c.is-good.result said.line said.p said.q inside (c.is-good.ensures N t reads)
+    let said = c.of_word-word.ensures in
+    good_said N (way_meant c.args.way) t c.args.from.now (line_meant c.args.to.now) c.args.w c.of_word-word.result.line c.of_word-word.result.p c.of_word-word.result.q c.index-from-word.result c.is_good.result said.line said.p said.q inside (c.is_good.ensures N t reads)

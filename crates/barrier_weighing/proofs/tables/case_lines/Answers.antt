@@ -13,11 +13,11 @@ pub loop-l-preserved : goal.loop-l-preserved
 loop-l-preserved c =
     let long = c.loop-l.invariant.0 in
     let inside : c.loop-l.l < length c.loop-l.lines = omega (arith, long, c.loop-l-test.true, c.min-count.ensures) in
-    let said = c.line-weights.ensures ∙ ap line_said c.line.ensures in
-    (length-set c.loop-l.lines c.loop-l.l _ ∙ long, set_more line_meant c.loop-l.lines c.loop-l.l c.line-weights.result (λ k. line_said (line_part k (words c.args.case.now))) inside c.loop-l.invariant.1 said)
+    let said = c.line_weights.ensures ∙ ap line_said c.line.ensures in
+    (length-set c.loop-l.lines c.loop-l.l _ ∙ long, set_more line_meant c.loop-l.lines c.loop-l.l c.line_weights.result (λ k. line_said (line_part k (words c.args.case.now))) inside c.loop-l.invariant.1 said)
 
-pub invariant-of-result : goal.invariant-of-result
-invariant-of-result c = (omega (arith, c.min-count.ensures), (c.loop-l.invariant.0, tt))
+pub invariant_of-result : goal.invariant_of-result
+invariant_of-result c = (omega (arith, c.min-count.ensures), (c.loop-l.invariant.0, tt))
 
 pub returns : goal.returns
-returns c = record { count = c.min-count.ensures ∙ ap (λ n. min n most_lines) c.count-kind.ensures; lines = λ l z h. c.loop-l.invariant.1 l z (omega (arith, h, c.loop-l-test.false)) }
+returns c = record { count = c.min-count.ensures ∙ ap (λ n. min n most_lines) c.count_kind.ensures; lines = λ l z h. c.loop-l.invariant.1 l z (omega (arith, h, c.loop-l-test.false)) }

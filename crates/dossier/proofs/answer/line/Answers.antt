@@ -10,7 +10,7 @@ use Rattle.dossier.proofs.answer.line.Goals as goal
 pub returns : goal.returns
 returns c =
     let bs = c.args.input.now in
-    let small : Bytes bs = All-from_get_or (λ b. b < 256) bs 0 (λ i l. omega (arith, c.type-inv.input i)) in
+    let small : Bytes bs = All-from_get_or (λ b. b < 256) bs 0 (λ i l. omega (arith, c.type_inv.input i)) in
     record {
       joined =
           made_so c.written.result (λ s. string_bytes s ≡ line_of (judged bs)) (λ s. string_bytes s ≡ codes "JOINED\n" → HasWalk bs)

@@ -7,8 +7,8 @@ use Rattle.dossier.proofs.judging.judge.Goals as goal
 pub returns : goal.returns
 returns c =
     let bs = c.args.input.now in
-    let small : Bytes bs = All-from_get_or (λ b. b < 256) bs 0 (λ i l. omega (arith, c.type-inv.input i)) in
+    let small : Bytes bs = All-from_get_or (λ b. b < 256) bs 0 (λ i l. omega (arith, c.type_inv.input i)) in
     record {
-      joined = λ e. joined_walk bs small (sym c.judge-in-turn.ensures ∙ e);
-      answer = c.judge-in-turn.ensures;
+      joined = λ e. joined_walk bs small (sym c.judge_in_turn.ensures ∙ e);
+      answer = c.judge_in_turn.ensures;
     }

@@ -13,22 +13,22 @@ come c =
     let parts = c.split-parts.result in
     let are = c.split-parts.ensures in
     ap (raised Weighing) c.weigh.ensures.answer
-    ∙ weighed_of c.args.input.now parts.plant.now parts.source.now parts.target.now parts.evidence.now c.amounts.result.now c.amounts-2.result.now c.in-default.field-0 _ (record {
-      size = c.in-ok-check-size.ensures;
+    ∙ weighed_of c.args.input.now parts.plant.now parts.source.now parts.target.now parts.evidence.now c.amounts.result.now c.amounts-2.result.now c.in_default.field-0 _ (record {
+      size = c.in_ok-check_size.ensures;
       plant_is = are.plant;
       source_is = are.source;
       target_is = are.target;
       evidence_is = are.evidence;
-      counted = c.in-default.ensures;
+      counted = c.in_default.ensures;
       source_read = ap Ok c.amounts.ensures ∙ c.in-Ok.ensures;
       target_read = ap Ok c.amounts-2.ensures ∙ c.in-Ok-read.ensures;
       made = c.new-plant.ensures;
     })
 
-pub returns-in-err-verdict : goal.returns-in-err-verdict
-returns-in-err-verdict c =
-    let p = err_from_is_err_and c.from-residual-in-err-verdict.result c.from-residual-in-err-verdict.ensures.1 in
-    p.1 ∙ (ap Err p.2 ∙ (ap (raised Weighing) (sym c.in-err-verdict.was) ∙ come (goal.at.returns-in-err-verdict c).After-weigh))
+pub returns-in_err-verdict : goal.returns-in_err-verdict
+returns-in_err-verdict c =
+    let p = err_from_is_err_and c.from_residual-in_err-verdict.result c.from_residual-in_err-verdict.ensures.1 in
+    p.1 ∙ (ap Err p.2 ∙ (ap (raised Weighing) (sym c.in_err-verdict.was) ∙ come (goal.at.returns-in_err-verdict c).After-weigh))
 
 pub returns : goal.returns
-returns c = ap (raised Weighing) (sym c.in-ok-verdict.was) ∙ come (goal.at.returns c).After-weigh
+returns c = ap (raised Weighing) (sym c.in_ok-verdict.was) ∙ come (goal.at.returns c).After-weigh

@@ -7,12 +7,12 @@ use Rattle.lines.proofs.matches.flow_number.Goals as goal
 
 pub returns-in-Forward : goal.returns-in-Forward
 returns-in-Forward c = λ N t read.
-    to_z-of_z w64 c.balance.result (record { sfits = c.balance.type-inv })
+    to_z-of_z w64 c.balance.result (record { sfits = c.balance.type_inv })
     ∙ c.balance.ensures N t read
     ∙ ap (λ w. flow N (way_meant w) t (line_meant c.args.from.now) (line_meant c.args.to.now) c.args.factors.p c.args.factors.q) (sym c.in-Forward.is)
 
 pub returns-in-Backward : goal.returns-in-Backward
 returns-in-Backward c = λ N t read.
-    to_z-of_z w64 c.balance-in-Backward.result (record { sfits = c.balance-in-Backward.type-inv })
+    to_z-of_z w64 c.balance-in-Backward.result (record { sfits = c.balance-in-Backward.type_inv })
     ∙ c.balance-in-Backward.ensures N t read
     ∙ ap (λ w. flow N (way_meant w) t (line_meant c.args.from.now) (line_meant c.args.to.now) c.args.factors.p c.args.factors.q) (sym c.in-Backward.is)

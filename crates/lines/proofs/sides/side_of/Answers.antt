@@ -5,13 +5,13 @@ use Rattle.barriers.specs.Lines.{side}
 use Rattle.lines.proofs.Adding.{term_fits, next_fits, next_back, side_all}
 use Rattle.lines.proofs.sides.side_of.Goals as goal
 
-pub overflow-mul-sum : goal.overflow-mul-sum
-overflow-mul-sum c =
+pub overflow_mul-sum : goal.overflow_mul-sum
+overflow_mul-sum c =
     term_fits (get_or c.args.weights.now c.loop-tank.tank (pos 0)) (get_or c.args.amounts.now c.loop-tank.tank 0)
     (c.requires.weights c.loop-tank.tank) (c.requires.amounts c.loop-tank.tank)
 
-pub overflow-add-sum : goal.overflow-add-sum
-overflow-add-sum c =
+pub overflow_add-sum : goal.overflow_add-sum
+overflow_add-sum c =
     let few : c.loop-tank.tank < most_tanks = omega arith in
     next_fits c.args.weights.now c.args.amounts.now c.requires.weights c.requires.amounts c.loop-tank.tank _ few c.loop-tank.invariant
 

@@ -4,7 +4,7 @@ use Rattle.paper.proofs.Making.{form_counts}
 use Rattle.paper.proofs.plants.check_plant.Goals as goal
 
 pub unreachable-requires : goal.unreachable-requires
-unreachable-requires c = never_head c.args.paper.now (sym c.in-ok-tanks.ensures ∙ ap Ok c.in-Head.is)
+unreachable-requires c = never_head c.args.paper.now (sym c.in_ok-tanks.ensures ∙ ap Ok c.in-Head.is)
 
 pub returns : goal.returns
-returns c = sym (form_counts c.args.paper.now c.in-Arcs.tanks c.in-Arcs.valves c.in-Arcs.least (sym c.in-ok-tanks.ensures ∙ ap Ok c.in-Arcs.is))
+returns c = sym (form_counts c.args.paper.now c.in-Arcs.tanks c.in-Arcs.valves c.in-Arcs.least (sym c.in_ok-tanks.ensures ∙ ap Ok c.in-Arcs.is))

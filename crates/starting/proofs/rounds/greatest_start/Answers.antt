@@ -7,7 +7,7 @@ use Rattle.starting.proofs.rounds.greatest_start.Goals as goal
 pub loop-init : goal.loop-init
 loop-init g c = (
   tells_none (g.P.Plant.meaning c.args.plant.now) (held c.args.filling.now) _ _ (marked_none 64)
-      (λ r l. c.holding-tanks-filled.ensures r (omega (arith, (g.P.Plant.bounded c.args.plant.now).few_tanks))),
+      (λ r l. c.holding_tanks-filled.ensures r (omega (arith, (g.P.Plant.bounded c.args.plant.now).few_tanks))),
   reached_none _ _ _ _ (marked_none 64),
 )
 

@@ -5,11 +5,11 @@ use Rattle.plant.specs.Walk.{held}
 use Rattle.starting.proofs.Firsts.{first_none, first_some}
 use Rattle.weighing.proofs.question.first_over.Goals as goal
 
-pub returns-then-amount-gt-MOST-AMOUNT : goal.returns-then-amount-gt-MOST-AMOUNT
-returns-then-amount-gt-MOST-AMOUNT c =
+pub returns-then-amount-gt-MOST_AMOUNT : goal.returns-then-amount-gt-MOST_AMOUNT
+returns-then-amount-gt-MOST_AMOUNT c =
     let A = c.args.filling.now in
     record {
-      is = sym (first_some (λ r. ltb most_amount (held A r)) (length A) c.loop-tank.tank (record { below = c.loop-tank-test.true; passes = lt-ltb _ _ c.if-amount-gt-MOST-AMOUNT.true; least = c.loop-tank.invariant }));
+      is = sym (first_some (λ r. ltb most_amount (held A r)) (length A) c.loop-tank.tank (record { below = c.loop-tank-test.true; passes = lt-ltb _ _ c.if-amount-gt-MOST_AMOUNT.true; least = c.loop-tank.invariant }));
       inside = c.loop-tank-test.true;
     }
 

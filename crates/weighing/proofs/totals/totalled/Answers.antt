@@ -11,10 +11,10 @@ loop-w-init c = (refl, λ t. ap (λ b. b || named (map total_of (left c.totals-r
 
 pub loop-w-preserved : goal.loop-w-preserved
 loop-w-preserved c =
-    let inside : c.of-word.result.valve < length c.loop-w.set = omega (arith, c.of-word.ensures.there, c.loop-w.invariant.0) in (
-      length-set c.loop-w.set c.of-word.result.valve _ ∙ c.loop-w.invariant.0,
+    let inside : c.of_word.result.valve < length c.loop-w.set = omega (arith, c.of_word.ensures.there, c.loop-w.invariant.0) in (
+      length-set c.loop-w.set c.of_word.result.valve _ ∙ c.loop-w.invariant.0,
       λ t.
-          mark_more c.loop-w.set c.of-word.result.valve t (named (map total_of (left c.next.new.self)) t) inside
-          ∙ (ap (λ v. marked c.loop-w.set t || (eqb v t || named (map total_of (left c.next.new.self)) t)) c.of-word.ensures.valve
+          mark_more c.loop-w.set c.of_word.result.valve t (named (map total_of (left c.next.new.self)) t) inside
+          ∙ (ap (λ v. marked c.loop-w.set t || (eqb v t || named (map total_of (left c.next.new.self)) t)) c.of_word.ensures.valve
           ∙ (ap (λ ws. marked c.loop-w.set t || named (map total_of ws) t) (sym c.in-Some.ensures.cases.0) ∙ c.loop-w.invariant.1 t)),
     )

@@ -8,26 +8,26 @@ use Rattle.weighing.specs.Judgement.{closed_at, unbalanced}
 use Rattle.weighing.proofs.Judging.{judged_by, same_out}
 use Rattle.weighing.proofs.totals.weigh_totals.Goals as goal
 
-pub returns-in-Some-first-left-out : goal.returns-in-Some-first-left-out
-returns-in-Some-first-left-out g c =
+pub returns-in-Some-first_left_out : goal.returns-in-Some-first_left_out
+returns-in-Some-first_left_out g c =
     let N = g.P.Plant.meaning c.args.plant.now in
     let A = c.args.source.now in
     let B = c.args.target.now in
     let d = totals_said c.args.paper.now in
     let same = same_out N (held A) (marked c.totalled-set.result) (named d.totals) c.totalled-set.ensures in
-    judged_by N A B d None None (Some c.in-Some-first-left-out.valve) (left_out (turned N) (held B) (named d.totals))
-    c.in-default.ensures c.in-default-first-unbalanced.ensures (c.in-Some-first-left-out.ensures ∙ same) refl
+    judged_by N A B d None None (Some c.in-Some-first_left_out.valve) (left_out (turned N) (held B) (named d.totals))
+    c.in_default.ensures c.in_default-first_unbalanced.ensures (c.in-Some-first_left_out.ensures ∙ same) refl
 
-pub returns-in-Some-first-left-out-2 : goal.returns-in-Some-first-left-out-2
-returns-in-Some-first-left-out-2 g c =
+pub returns-in-Some-first_left_out-2 : goal.returns-in-Some-first_left_out-2
+returns-in-Some-first_left_out-2 g c =
     let N = g.P.Plant.meaning c.args.plant.now in
     let A = c.args.source.now in
     let B = c.args.target.now in
     let d = totals_said c.args.paper.now in
     let same = same_out N (held A) (marked c.totalled-set.result) (named d.totals) c.totalled-set.ensures in
     let same_end = same_out (turned N) (held B) (marked c.totalled-set.result) (named d.totals) c.totalled-set.ensures in
-    judged_by N A B d None None None (Some c.in-Some-first-left-out-2.valve)
-    c.in-default.ensures c.in-default-first-unbalanced.ensures (c.in-default-first-left-out.ensures ∙ same) (c.in-Some-first-left-out-2.ensures ∙ same_end)
+    judged_by N A B d None None None (Some c.in-Some-first_left_out-2.valve)
+    c.in_default.ensures c.in_default-first_unbalanced.ensures (c.in_default-first_left_out.ensures ∙ same) (c.in-Some-first_left_out-2.ensures ∙ same_end)
 
 pub returns : goal.returns
 returns g c =
@@ -38,4 +38,4 @@ returns g c =
     let same = same_out N (held A) (marked c.totalled-set.result) (named d.totals) c.totalled-set.ensures in
     let same_end = same_out (turned N) (held B) (marked c.totalled-set.result) (named d.totals) c.totalled-set.ensures in
     judged_by N A B d None None None None
-    c.in-default.ensures c.in-default-first-unbalanced.ensures (c.in-default-first-left-out.ensures ∙ same) (c.in-default-first-left-out-2.ensures ∙ same_end)
+    c.in_default.ensures c.in_default-first_unbalanced.ensures (c.in_default-first_left_out.ensures ∙ same) (c.in_default-first_left_out-2.ensures ∙ same_end)

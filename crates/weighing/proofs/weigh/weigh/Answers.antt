@@ -12,9 +12,9 @@ returns g c =
     let A = c.args.source.now in
     let B = c.args.target.now in
     let bs = c.args.evidence.now in
-    let small : Bytes bs = All-from_get_or (λ x. x < 256) bs 0 (λ i l. omega (arith, c.type-inv.evidence i)) in
+    let small : Bytes bs = All-from_get_or (λ x. x < 256) bs 0 (λ i l. omega (arith, c.type_inv.evidence i)) in
     record {
-      joined = λ e. (accepted_walk N b A B bs (only_accepted N b A B bs small (sym c.weigh-in-turn.ensures ∙ e))).walk;
-      accepts = λ x w e. c.weigh-in-turn.ensures ∙ (ap (weighs N A B) e ∙ totals_of_walks_are_accepted N b A B x w);
-      answer = c.weigh-in-turn.ensures;
+      joined = λ e. (accepted_walk N b A B bs (only_accepted N b A B bs small (sym c.weigh_in_turn.ensures ∙ e))).walk;
+      accepts = λ x w e. c.weigh_in_turn.ensures ∙ (ap (weighs N A B) e ∙ totals_of_walks_are_accepted N b A B x w);
+      answer = c.weigh_in_turn.ensures;
     }

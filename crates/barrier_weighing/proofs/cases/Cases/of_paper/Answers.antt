@@ -11,11 +11,11 @@ pub loop-i-preserved : goal.loop-i-preserved
 loop-i-preserved c =
     let long = c.loop-i.invariant.0 in
     let inside : c.loop-i.i < length c.loop-i.cases = omega (arith, long, c.loop-i-test.true, c.min-count.ensures) in
-    let here : Reads c.case-lines.result (words c.case.result.now) = record { count = c.case-lines.ensures.count; lines = c.case-lines.ensures.lines } in
-    (length-set c.loop-i.cases c.loop-i.i _ ∙ long, one_more c.loop-i.cases c.loop-i.i c.case-lines.result (words c.args.paper.now.bytes.now) inside c.loop-i.invariant.1 (subst (Reads c.case-lines.result) c.case.ensures here))
+    let here : Reads c.case_lines.result (words c.case.result.now) = record { count = c.case_lines.ensures.count; lines = c.case_lines.ensures.lines } in
+    (length-set c.loop-i.cases c.loop-i.i _ ∙ long, one_more c.loop-i.cases c.loop-i.i c.case_lines.result (words c.args.paper.now.bytes.now) inside c.loop-i.invariant.1 (subst (Reads c.case_lines.result) c.case.ensures here))
 
-pub invariant-of-result : goal.invariant-of-result
-invariant-of-result c = (omega (arith, c.min-count.ensures), (c.loop-i.invariant.0, tt))
+pub invariant_of-result : goal.invariant_of-result
+invariant_of-result c = (omega (arith, c.min-count.ensures), (c.loop-i.invariant.0, tt))
 
 pub returns : goal.returns
 returns c = λ tanks valves d of.

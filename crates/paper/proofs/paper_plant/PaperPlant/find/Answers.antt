@@ -4,10 +4,10 @@ use Rattle.words.proofs.Laws.{read_some, read_none}
 use Rattle.paper.proofs.Searching.{found_at, found_none, passed_by}
 use Rattle.paper.proofs.paper_plant.PaperPlant.find.Goals as goal
 
-pub returns-in-default : goal.returns-in-default
-returns-in-default c =
+pub returns-in_default : goal.returns-in_default
+returns-in_default c =
     let ws = words c.args.self.now.arcs.now in
-    let past = (read_none c.seek.result ws c.in-default.ensures).0 in
+    let past = (read_none c.seek.result ws c.in_default.ensures).0 in
     sym (found_none c.args.key ws (λ j h e. omega (arith, c.seek.ensures.before j (omega arith))))
 
 pub returns-then-w-key : goal.returns-then-w-key

@@ -9,9 +9,9 @@ loop-low-init c =
     let n = length_words c.args.self.now.arcs.now in
     (omega arith, omega arith, λ i h. absurd (omega arith), λ i h k. absurd (omega arith))
 
-pub loop-low-preserved-then-key-at-key : goal.loop-low-preserved-then-key-at-key
-loop-low-preserved-then-key-at-key c =
+pub loop-low-preserved-then-key_at-key : goal.loop-low-preserved-then-key_at-key
+loop-low-preserved-then-key_at-key c =
     let n = length_words c.args.self.now.arcs.now in
     let middle = c.loop-low.low + (c.loop-low.high - c.loop-low.low) / 2 in
     let inside : middle < length (words c.args.self.now.arcs.now) = omega (arith, c.loop-low.invariant.1) in
-    (omega arith, c.loop-low.invariant.1, below_middle c.args.key (words c.args.self.now.arcs.now) middle c.args.self.now.rises inside (omega (arith, c.key-at.ensures)), c.loop-low.invariant.3)
+    (omega arith, c.loop-low.invariant.1, below_middle c.args.key (words c.args.self.now.arcs.now) middle c.args.self.now.rises inside (omega (arith, c.key_at.ensures)), c.loop-low.invariant.3)

@@ -2,8 +2,8 @@ use Rattle.std.proofs.Common.{sym, refl, ◌∙◌}
 use Rattle.words.proofs.Laws.{here, here_inside}
 use Rattle.words.proofs.reader.Reader.next.Goals as goal
 
-pub invariant-of-self : goal.invariant-of-self
-invariant-of-self c = (here_inside c.args.self.now.at c.args.self.now.bytes.now c.in-ok-w.w c.in-ok-w.ensures, tt)
+pub invariant_of-self : goal.invariant_of-self
+invariant_of-self c = record { inside = here_inside c.args.self.now.at c.args.self.now.bytes.now c.in_ok-w.w c.in_ok-w.ensures }
 
 pub returns : goal.returns
-returns c = record { same = refl; cases = (here c.args.self.now.at c.args.self.now.bytes.now c.in-ok-w.w c.in-ok-w.ensures, refl, refl) }
+returns c = record { same = refl; cases = (here c.args.self.now.at c.args.self.now.bytes.now c.in_ok-w.w c.in_ok-w.ensures, refl, refl) }
