@@ -6,7 +6,7 @@ ghost use Rattle.barriers.specs.Lines.{line_at};
 ghost use Rattle.barriers.specs.Steps.{Step};
 ghost use Rattle.barriers.specs.Tests.{good?};
 ghost use Rattle.lines.specs.OfLine.{line_meant};
-ghost use Rattle.lines.specs.OfValve.{Read_from};
+ghost use Rattle.lines.specs.OfValve.{ReadFrom};
 ghost use Rattle.lines.specs.OfWay.{way_meant};
 ghost use Rattle.barrier_paper.specs.Limits.{most_cases, most_lines};
 ghost use Rattle.barrier_paper.specs.Document.{BarrierDocument, StepFits, barrier_of, match_said, match_word};
@@ -23,7 +23,7 @@ use words::Reader;
 
 // Whether a match is good, from the line of a case that its word names to a line.
 fn is_match_good(valve: &ValveWeights, way: Way, from: &CaseLines, to: &LineWeights, w: u32) -> bool
-    ensures { (N : Net) (t : ℕ) → Read_from valve.now N t → (match_said w).line < length (case_meant from.now) → result ≡ good? N (way_meant way) t (line_at (case_meant from.now) (match_said w).line) (line_meant to.now) (match_said w).p (match_said w).q }
+    ensures { (N : Net) (t : ℕ) → ReadFrom valve.now N t → (match_said w).line < length (case_meant from.now) → result ≡ good? N (way_meant way) t (line_at (case_meant from.now) (match_said w).line) (line_meant to.now) (match_said w).p (match_said w).q }
 {
     let word = MatchWord::of_word(w);
     let factors = Factors {
@@ -41,7 +41,7 @@ fn first_bad_match(
     to: &CaseLines,
     matches: &[u8],
 ) -> Option<usize>
-    ensures is { (N : Net) (t : ℕ) → Read_from valve.now N t → MatchWords (case_meant from.now) (case_meant to.now) (words matches.now) → result ≡ bad_match N (way_meant way) t (case_meant from.now) (case_meant to.now) (words matches.now) }
+    ensures is { (N : Net) (t : ℕ) → ReadFrom valve.now N t → MatchWords (case_meant from.now) (case_meant to.now) (words matches.now) → result ≡ bad_match N (way_meant way) t (case_meant from.now) (case_meant to.now) (words matches.now) }
     ensures small { IfSome result (λ k. k < most_lines) }
 {
     let mut reader = Reader::new(matches);

@@ -5,7 +5,7 @@ use Rattle.lines.specs.Tables.{Tabulates}
 use Rattle.lines.specs.declared.valve.ValveWeights.{ValveWeights}
 
 -- they are those of valve t of the plant
-pub record Read_from (x : ValveWeights) (N : Net) (t : ℕ) : Type 0 where
+pub record ReadFrom (x : ValveWeights) (N : Net) (t : ℕ) : Type 0 where
   pub tanks : x.tanks ≡ N.tanks
   pub intake : Tabulates x.intake (N.intake t)
   pub outlet : Tabulates x.outlet (N.outlet t)

@@ -1,6 +1,6 @@
 // The weights of one valve, read from a plant.
 ghost use Rattle.lines.specs.Tables.{Tabulates};
-ghost use Rattle.lines.specs.OfValve.{Read_from};
+ghost use Rattle.lines.specs.OfValve.{ReadFrom};
 
 use crate::valve::ValveWeights;
 use plant::limits::MOST_TANKS;
@@ -19,7 +19,7 @@ fn intake_column<P: Plant>(plant: &P, valve: usize) -> [u32; MOST_TANKS]
 
 impl ValveWeights {
     pub fn of_plant<P: Plant>(plant: &P, valve: usize) -> ValveWeights
-        ensures { Read_from result (P.Plant.meaning plant.now) valve }
+        ensures { ReadFrom result (P.Plant.meaning plant.now) valve }
     {
         ValveWeights {
             tanks: plant.counts().tanks,

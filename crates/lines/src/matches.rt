@@ -8,7 +8,7 @@ ghost use Rattle.barriers.specs.Steps.{flow};
 ghost use Rattle.barriers.specs.Tests.{tank_good?, marked?, good?};
 ghost use Rattle.lines.specs.Limits.{most_valve_side, most_weight_sum};
 ghost use Rattle.lines.specs.OfLine.{line_meant};
-ghost use Rattle.lines.specs.OfValve.{Read_from};
+ghost use Rattle.lines.specs.OfValve.{ReadFrom};
 ghost use Rattle.lines.specs.OfWay.{way_meant};
 
 use crate::line::LineWeights;
@@ -82,7 +82,7 @@ fn balance(
 ) -> i64
     requires gains { (r : ℕ) → unsigned_abs (slice_index_or gains.now r (pos 0)) ≤ most_weight_sum }
     requires losses { (r : ℕ) → unsigned_abs (slice_index_or losses.now r (pos 0)) ≤ most_weight_sum }
-    ensures* { λ r. ⌜ ((N : Net) (t : ℕ) → Read_from valve.now N t → r ≡ pos a *ℤ side (λ r. get_or gains.now r (pos 0)) (N.outlet t) N.tanks -ℤ pos b *ℤ side (λ r. get_or losses.now r (pos 0)) (N.intake t) N.tanks) ⌝ }
+    ensures* { λ r. ⌜ ((N : Net) (t : ℕ) → ReadFrom valve.now N t → r ≡ pos a *ℤ side (λ r. get_or gains.now r (pos 0)) (N.outlet t) N.tanks -ℤ pos b *ℤ side (λ r. get_or losses.now r (pos 0)) (N.intake t) N.tanks) ⌝ }
 {
     let given = side_of(gains, &valve.outlet, valve.tanks);
     let taken = side_of(losses, &valve.intake, valve.tanks);
@@ -97,7 +97,7 @@ pub fn flow_number(
     to: &LineWeights,
     factors: Factors,
 ) -> i64
-    ensures { (N : Net) (t : ℕ) → Read_from valve.now N t → result ≡ flow N (way_meant way) t (line_meant from.now) (line_meant to.now) factors.p factors.q }
+    ensures { (N : Net) (t : ℕ) → ReadFrom valve.now N t → result ≡ flow N (way_meant way) t (line_meant from.now) (line_meant to.now) factors.p factors.q }
 {
     let Factors { p, q } = factors;
     match way {
@@ -121,7 +121,7 @@ pub fn is_good(
     to: &LineWeights,
     factors: Factors,
 ) -> bool
-    ensures { (N : Net) (t : ℕ) → Read_from valve.now N t → result ≡ good? N (way_meant way) t (line_meant from.now) (line_meant to.now) factors.p factors.q }
+    ensures { (N : Net) (t : ℕ) → ReadFrom valve.now N t → result ≡ good? N (way_meant way) t (line_meant from.now) (line_meant to.now) factors.p factors.q }
 {
     if !are_tanks_good(from, to, factors, valve.tanks) {
         return false;
