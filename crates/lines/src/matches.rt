@@ -1,5 +1,5 @@
 // Whether a match is good: the numbers that a pair of lines, a valve and two factors give.
-ghost use Rattle.std.specs.Prelude.{◌≡◌, ℕ, ◌<◌, ◌≤◌, get_or, pos, ◌-ℤ◌, ◌*ℤ◌, int_le, slice_index_or, unsigned_abs};
+ghost use Rattle.std.specs.Prelude.{◌≡◌, ℕ, ◌<◌, ◌≤◌, pos, ◌-ℤ◌, ◌*ℤ◌, int_le, slice_index_or, unsigned_abs};
 ghost use Rattle.plant.specs.Limits.{most_tanks};
 ghost use Rattle.plant.specs.Net.{Net};
 ghost use Rattle.walks.specs.Rounds.{all_below};
@@ -82,7 +82,7 @@ fn balance(
 ) -> i64
     requires gains { (r : ℕ) → unsigned_abs (slice_index_or gains.now r (pos 0)) ≤ most_weight_sum }
     requires losses { (r : ℕ) → unsigned_abs (slice_index_or losses.now r (pos 0)) ≤ most_weight_sum }
-    ensures* { λ r. ⌜ ((N : Net) (t : ℕ) → ReadFrom valve.now N t → r ≡ pos a *ℤ side (λ r. get_or gains.now r (pos 0)) (N.outlet t) N.tanks -ℤ pos b *ℤ side (λ r. get_or losses.now r (pos 0)) (N.intake t) N.tanks) ⌝ }
+    ensures { (N : Net) (t : ℕ) → ReadFrom valve.now N t → result ≡ pos a *ℤ side (λ r. slice_index_or gains.now r (pos 0)) (N.outlet t) N.tanks -ℤ pos b *ℤ side (λ r. slice_index_or losses.now r (pos 0)) (N.intake t) N.tanks }
 {
     let given = side_of(gains, &valve.outlet, valve.tanks);
     let taken = side_of(losses, &valve.intake, valve.tanks);

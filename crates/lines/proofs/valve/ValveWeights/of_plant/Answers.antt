@@ -9,4 +9,8 @@ invariant_of-result g c =
     let few : c.counts.result.tanks ≤ most_tanks = omega (arith, b.few_tanks) in
     let long-intake : length c.intake_column.result ≡ most_tanks = search rules in
     let long-outlet : length c.intake_column-2.result ≡ most_tanks = search rules in
-    (few, (tabulates_small _ _ most_weight long-intake c.intake_column.ensures (b.intake_small c.args.valve), (tabulates_small _ _ most_weight long-outlet c.intake_column-2.ensures (b.outlet_small c.args.valve), tt)))
+    record {
+      few_tanks = few;
+      intake_small = tabulates_small _ _ most_weight long-intake c.intake_column.ensures (b.intake_small c.args.valve);
+      outlet_small = tabulates_small _ _ most_weight long-outlet c.intake_column-2.ensures (b.outlet_small c.args.valve);
+    }
