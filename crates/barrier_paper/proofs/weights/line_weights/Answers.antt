@@ -7,7 +7,7 @@ use Rattle.barrier_paper.proofs.Summing.{part_within, zeros, zeros_small, same_l
 use Rattle.barrier_paper.proofs.weights.line_weights.Goals as goal
 
 pub invariant_of-result : goal.invariant_of-result
-invariant_of-result c = (λ r. zeros_small r, (λ r. zeros_small r, tt))
+invariant_of-result c = record { left_small = zeros_small; right_small = zeros_small }
 
 pub returns-then-line-gt-MOST_EVIDENCE_WORDS : goal.returns-then-line-gt-MOST_EVIDENCE_WORDS
 returns-then-line-gt-MOST_EVIDENCE_WORDS c =
@@ -19,7 +19,10 @@ invariant_of-result-2 c =
     let bs = c.args.line.now in
     let few : length (words bs) ≤ most_evidence_words = omega (arith, length_words bs, c.if-line-gt-MOST_EVIDENCE_WORDS.false) in
     let Small : ℤ → Type 0 = λ z. nat_abs z ≤ most_weight_sum in
-    (λ r. subst Small (sym (c.weights-left.ensures r)) (part_within 8 bs r few), (λ r. subst Small (sym (c.weights-right.ensures r)) (part_within 9 bs r few), tt))
+    record {
+      left_small = λ r. subst Small (sym (c.weights-left.ensures r)) (part_within 8 bs r few);
+      right_small = λ r. subst Small (sym (c.weights-right.ensures r)) (part_within 9 bs r few);
+    }
 
 pub returns : goal.returns
 returns c =
