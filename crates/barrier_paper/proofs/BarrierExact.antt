@@ -3,7 +3,6 @@ use Rattle.std.proofs.Common.{◌≡◌, ℕ, zero, suc, ◌*◌, ◌^◌, ◌�
 use Rattle.std.proofs.lemmas.List.{length-map, nil_from_length}
 use Rattle.std.proofs.ByRecursion.{All-weaker}
 use Rattle.words.specs.Words.{words, bytes}
-use Rattle.words.specs.Faults.{counted}
 use Rattle.words.specs.Inverse.{Bytes}
 use Rattle.words.proofs.Inverses.{words_of_bytes, bytes_of_words}
 use Rattle.paper.specs.Limits.{most_evidence_words}

@@ -1,5 +1,5 @@
 -- A barrier paper as a document: its cases, each a list of lines with their weights, and its steps.
-use Rattle.std.specs.Prelude.{◌≡◌, ℕ, suc, ◌+◌, ◌*◌, ◌^◌, ◌<◌, ◌≤◌, Bool, true, false, cond, List, [], ◌∷◌, ◌++◌, map, length, ℤ, pos, ◌+ℤ◌, neg_ℤ, ◌==◌, slice_index_or}
+use Rattle.std.specs.Prelude.{◌≡◌, ℕ, suc, ◌+◌, ◌*◌, ◌^◌, ◌<◌, ◌≤◌, Bool, cond, List, [], ◌∷◌, ◌++◌, map, length, ℤ, pos, ◌+ℤ◌, neg_ℤ, ◌==◌, slice_index_or}
 use Rattle.std.specs.List.{AllByRecursion as All}
 use Rattle.words.specs.Words.{bytes, field, kind}
 use Rattle.paper.specs.Limits.{most_evidence_words}

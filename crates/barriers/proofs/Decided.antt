@@ -1,5 +1,5 @@
 -- The tests compute the rule.
-use Rattle.std.proofs.Common.{◌≡◌, ℕ, zero, suc, ◌<◌, ◌≤◌, Bool, true, false, not, ◌&&◌, ◌||◌, eqb, ltb, leb, ◌⊎◌, List, length, get_or, ℤ, pos, ◌-ℤ◌, ◌*ℤ◌, ◌≤ℤ◌, ◌<ℤ◌, Decides, sym, refl, subst, inl, inr, arith}
+use Rattle.std.proofs.Common.{◌≡◌, ℕ, ◌<◌, ◌≤◌, Bool, true, false, not, ◌||◌, leb, List, length, ℤ, pos, ◌-ℤ◌, ◌*ℤ◌, ◌≤ℤ◌, ◌<ℤ◌, Decides, sym, refl, arith}
 use lib.Signed.{le_z, lt_z}
 use borrow.Author.Differences.{ints}
 use Rattle.std.proofs.lemmas.Bool.Decides.{Decides-and, Decides-or, Decides-not, Decides-eqb, Decides-ltb, Decides-like}
@@ -7,9 +7,9 @@ use Rattle.plant.specs.Net.{Net}
 use Rattle.plant.specs.Walk.{Marking, held}
 use Rattle.walks.specs.Rounds.{all_below, some_below}
 use Rattle.walks.proofs.Closure.{all_below_at, all_below_from, some_below_at, some_below_has}
-use Rattle.barriers.specs.Lines.{side, Line, Case, Barrier, line_at, case_at, Compares, HoldsLine, HoldsCase, HoldsBarrier, HoldsOf}
-use Rattle.barriers.specs.Steps.{Way, forward, backward, Step, step_at, match_at, flow, TankGood, Marked, Good, MatchGood, Closes, ClosedBy, Accepts}
-use Rattle.barriers.specs.Tests.{compares?, holds_line?, holds_case?, holds_barrier?, tank_good?, marked?, good?, match_good?, same_way?, closes?, closed_way?, holds_of?, accepts?}
+use Rattle.barriers.specs.Lines.{side, Line, Case, Barrier, line_at, case_at, Compares, HoldsLine, HoldsCase, HoldsOf}
+use Rattle.barriers.specs.Steps.{Way, forward, backward, Step, step_at, match_at, flow, TankGood, Marked, MatchGood, Closes}
+use Rattle.barriers.specs.Tests.{compares?, holds_line?, holds_case?, tank_good?, marked?, good?, match_good?, same_way?, closes?, closed_way?, holds_of?, accepts?}
 use Rattle.barriers.specs.Theorems.{LineDecided, BarrierDecided, GoodDecided, AcceptanceDecided}
 
 -- ---- tests of numbers

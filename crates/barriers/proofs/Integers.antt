@@ -1,5 +1,5 @@
 -- Laws of the integers that lib.IntN and lib.Signed lack: products over sums, and the sign of a natural multiple.
-use Rattle.std.proofs.Common.{◌≡◌, ℕ, zero, suc, ◌+◌, ◌*◌, ◌<◌, ◌≤◌, Bool, true, false, ◌↔◌, ℤ, pos, negsuc, ◌+ℤ◌, ◌-ℤ◌, ◌*ℤ◌, neg_ℤ, ◌≤ℤ◌, ◌<ℤ◌, sym, refl, ap, ◌∙◌, arith}
+use Rattle.std.proofs.Common.{◌≡◌, ℕ, zero, suc, ◌+◌, ◌*◌, ◌≤◌, Bool, true, false, ◌↔◌, ℤ, pos, negsuc, ◌+ℤ◌, ◌-ℤ◌, ◌*ℤ◌, neg_ℤ, ◌≤ℤ◌, ◌<ℤ◌, sym, ap, ◌∙◌, arith}
 use lib.IntN.{*ℤ_comm}
 use Rattle.barriers.specs.Lines.{Compares}
 use borrow.Author.Differences.{ints, up, down, sum_is_lem, neg_is, product_is, same_in, same_out, le_out, lt_out, at_most_in, below_in}

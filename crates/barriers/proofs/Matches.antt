@@ -1,13 +1,13 @@
 -- A good match is an implication between lines. Both directions are one: the pair of markings (x + α·c, y + α·d) becomes
 -- (x + α·c', y + α·d'), where c, d and c', d' are what one unit of the valve needs before and leaves after.
-use Rattle.std.proofs.Common.{◌≡◌, ℕ, ◌+◌, ◌-◌, ◌*◌, ◌<◌, ◌≤◌, Bool, true, false, ◌⊎◌, ℤ, pos, ◌+ℤ◌, ◌-ℤ◌, ◌*ℤ◌, ◌≤ℤ◌, ◌<ℤ◌, sym, refl, ap, ◌∙◌, subst, inl, inr, arith}
+use Rattle.std.proofs.Common.{◌≡◌, ℕ, ◌+◌, ◌-◌, ◌*◌, ◌<◌, ◌≤◌, Bool, true, false, ◌⊎◌, ℤ, pos, ◌+ℤ◌, ◌-ℤ◌, ◌*ℤ◌, ◌≤ℤ◌, ◌<ℤ◌, subst, inl, inr, arith}
 use Rattle.plant.specs.Net.{Net}
 use Rattle.plant.specs.Walk.{Marking}
-use Rattle.barriers.specs.Lines.{side, Line, HoldsLine}
-use Rattle.barriers.specs.Steps.{Way, forward, backward, flow, Marked, Good}
-use Rattle.barriers.specs.Separator.{Takes, Implies}
+use Rattle.barriers.specs.Lines.{Line, HoldsLine}
+use Rattle.barriers.specs.Steps.{Way, forward, backward, flow, Good}
+use Rattle.barriers.specs.Separator.{Takes}
 use Rattle.barriers.specs.Theorems.{GoodImplies}
-use Rattle.barriers.proofs.Integers.{Above, at_least, above_zero, times_sum, times_neg, times_diff, times_swap, multiple_nonneg, multiple_positive, nonneg_of_multiple, positive_of_multiple, linear}
+use Rattle.barriers.proofs.Integers.{Above, at_least, above_zero, times_sum, times_neg, times_swap, multiple_nonneg, multiple_positive, nonneg_of_multiple, positive_of_multiple, linear}
 use Rattle.barriers.proofs.Sides.{none, margin, side_none, side_compare, margin_split, holds_margin}
 
 -- ---- numbers

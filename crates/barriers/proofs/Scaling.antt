@@ -1,5 +1,5 @@
 -- A barrier holds of k times two markings exactly if it holds of the two, and sees only the amounts in the tanks.
-use Rattle.std.proofs.Common.{◌≡◌, ℕ, ◌*◌, ◌<◌, ◌≤◌}
+use Rattle.std.proofs.Common.{◌≡◌, ℕ, ◌*◌, ◌<◌}
 use Rattle.plant.specs.Walk.{Marking}
 use Rattle.barriers.specs.Lines.{Line, Barrier, HoldsLine, HoldsBarrier, line_at, case_at}
 use Rattle.barriers.specs.Theorems.{Homogeneous}

@@ -1,11 +1,11 @@
 -- An accepted barrier is a locally closed bi-separator, and a bi-separator excludes every walk.
-use Rattle.std.proofs.Common.{◌≡◌, ℕ, ◌+◌, ◌*◌, ◌<◌, ◌≤◌, Bool, true, false, ◌⊎◌, List, [], ◌∷◌, length, get_or, sym, refl, subst, inl, inr, arith}
+use Rattle.std.proofs.Common.{◌≡◌, ℕ, ◌<◌, true, List, refl, arith}
 use Rattle.plant.specs.Net.{Net, Bounded}
-use Rattle.plant.specs.Walk.{Marking, Firing, Fires, Leads, stays, fires, Walk, held, times}
-use Rattle.barriers.specs.Lines.{Line, Barrier, HoldsLine, HoldsBarrier, line_at, case_at}
+use Rattle.plant.specs.Walk.{Marking, Firing, Fires, Leads, stays, fires, held, times}
+use Rattle.barriers.specs.Lines.{Barrier, HoldsBarrier, line_at, case_at}
 use Rattle.barriers.specs.Steps.{Way, forward, backward, Step, step_at, match_at, Closes, Accepts}
-use Rattle.barriers.specs.Separator.{Takes, Implies, CaseImplies, LocallyClosed, LocallyClosedBy, LeadsTo, BiInvariant, BiSeparator}
-use Rattle.barriers.specs.Theorems.{LocallyClosedInvariant, Separates, AcceptedSeparates, SeparatorExcludes, AcceptedExcludes}
+use Rattle.barriers.specs.Separator.{Takes, CaseImplies, LocallyClosed, LocallyClosedBy, LeadsTo, BiInvariant}
+use Rattle.barriers.specs.Theorems.{LocallyClosedInvariant, AcceptedSeparates, SeparatorExcludes, AcceptedExcludes}
 use Rattle.walks.proofs.Wider.{walk_wider, run_open}
 use Rattle.barriers.proofs.Matches.{good_implies}
 use Rattle.barriers.proofs.Scaling.{homogeneous, barrier_carried, line_same}

@@ -1,5 +1,5 @@
 -- Laws of a line's sides: a side is linear in the amounts, and grows with the weights.
-use Rattle.std.proofs.Common.{◌≡◌, ℕ, zero, suc, ◌+◌, ◌*◌, ◌<◌, ◌≤◌, ◌↔◌, ℤ, pos, negsuc, ◌+ℤ◌, ◌-ℤ◌, ◌*ℤ◌, nat_abs, ◌≤ℤ◌, sym, refl, ap, ◌∙◌, mul-le-mul, add-one, arith}
+use Rattle.std.proofs.Common.{◌≡◌, ℕ, zero, suc, ◌+◌, ◌*◌, ◌<◌, ◌≤◌, ◌↔◌, ℤ, pos, negsuc, ◌+ℤ◌, ◌-ℤ◌, ◌*ℤ◌, nat_abs, ◌≤ℤ◌, refl, ap, ◌∙◌, mul-le-mul, add-one, arith}
 use lib.IntN.{*ℤ_comm, *ℤ-zero, +ℤ_idl}
 use borrow.Author.Differences.{ints}
 use Rattle.plant.specs.Walk.{Marking}

@@ -1,7 +1,7 @@
 -- What a barrier is meant to be: a formula over pairs of markings that stays true under firings at either end, and so keeps one
 -- filling apart from another. None of this speaks of factors. Markings are whole amounts, and since lines are homogeneous a fact
 -- about all markings is one at every scale.
-use Rattle.std.specs.Prelude.{◌≡◌, ℕ, ◌+◌, ◌*◌, ◌<◌, ◌≤◌, Bool, true, List, length}
+use Rattle.std.specs.Prelude.{◌≡◌, ℕ, ◌+◌, ◌*◌, ◌<◌, ◌≤◌, true, List, length}
 use Rattle.plant.specs.Net.{Net}
 use Rattle.plant.specs.Walk.{Marking, Firing, Fires}
 use Rattle.barriers.specs.Lines.{Line, Case, Barrier, line_at, case_at, HoldsLine, HoldsBarrier, HoldsOf}

@@ -4,7 +4,7 @@ use Rattle.plant.specs.Net.{Net}
 use Rattle.plant.specs.Walk.{Marking, held}
 use Rattle.walks.specs.Rounds.{all_below, some_below}
 use Rattle.barriers.specs.Lines.{side, Line, Case, Barrier, line_at, case_at}
-use Rattle.barriers.specs.Steps.{Way, forward, backward, Match, Step, match_at, step_at, flow}
+use Rattle.barriers.specs.Steps.{Way, forward, backward, Step, match_at, step_at, flow}
 
 abbrev pub compares? : Bool → ℤ → ℤ → Bool
 compares? true u v = int_lt u v

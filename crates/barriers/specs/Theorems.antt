@@ -1,10 +1,10 @@
 -- What is proved of barriers.
-use Rattle.std.specs.Prelude.{◌≡◌, ℕ, ◌*◌, ◌<◌, ◌≤◌, true, false, ◌↔◌, List, [], ◌∷◌, Decides}
+use Rattle.std.specs.Prelude.{◌≡◌, ℕ, ◌*◌, ◌≤◌, true, ◌↔◌, List, Decides}
 use Rattle.plant.specs.Net.{Net, Bounded}
 use Rattle.plant.specs.Walk.{Marking, Walk}
 use Rattle.walks.specs.Theorems.{SameWeights}
-use Rattle.barriers.specs.Lines.{Line, Case, Barrier, HoldsLine, HoldsBarrier}
-use Rattle.barriers.specs.Steps.{Way, forward, backward, Step, Good, Accepts}
+use Rattle.barriers.specs.Lines.{Line, Barrier, HoldsLine, HoldsBarrier}
+use Rattle.barriers.specs.Steps.{Way, Step, Good, Accepts}
 use Rattle.barriers.specs.Tests.{holds_line?, holds_barrier?, good?, accepts?}
 use Rattle.barriers.specs.Separator.{Implies, LocallyClosed, LocallyClosedBy, BiInvariant, BiSeparator}
 

@@ -1,12 +1,12 @@
 -- A dossier is answered by JOINED only where its plant has a walk from its source to its target.
-use Rattle.std.proofs.Common.{◌≡◌, ℕ, ◌*◌, ◌<◌, List, [], ◌∷◌, ◌++◌, length, drop, IfOk, Ok, Err, codes, Result, sym, refl, ap, ◌∙◌, subst, arith}
-use Rattle.std.specs.List.{AllByRecursion as All, prefix_len}
+use Rattle.std.proofs.Common.{◌≡◌, ℕ, ◌*◌, ◌<◌, List, IfOk, Ok, Err, codes, Result, sym, refl, ◌∙◌, subst, arith}
+use Rattle.std.specs.List.{prefix_len}
 use Rattle.std.proofs.ByRecursion.{All-drop}
-use Rattle.plant.specs.Net.{Net, Bounded}
+use Rattle.plant.specs.Net.{Bounded}
 use Rattle.words.specs.Words.{words, rest}
-use Rattle.words.specs.Faults.{onward, raised}
+use Rattle.words.specs.Faults.{raised}
 use Rattle.words.specs.Inverse.{Bytes}
-use Rattle.paper.specs.Arcs.{PlantDocument, plant_of, plant_document, arc_of}
+use Rattle.paper.specs.Arcs.{PlantDocument, plant_of, plant_document}
 use Rattle.words.specs.declared.faults.PaperFault.{PaperFault}
 use Rattle.paper.specs.PlantForm.{plant_form, plant_read}
 use Rattle.paper.specs.Bounds.{paper_bounded}
@@ -25,7 +25,7 @@ use Rattle.dossier.specs.declared.parts.Run.TheVariants.{Before, Of}
 use Rattle.dossier.specs.Parts.{source_kind, target_kind, goes_on, after, from_source, from_target, plant_part, source_part, target_part, evidence_part}
 use Rattle.dossier.specs.Fillings.{fill_read}
 use Rattle.dossier.specs.Judging.{judged}
-use Rattle.dossier.specs.Shown.{Asks, HasWalk}
+use Rattle.dossier.specs.Shown.{HasWalk}
 
 -- the plant of a paper that is read without fault keeps the limits
 read_bounded : (bs : List ℕ) (d : PlantDocument) → plant_read bs ≡ Ok d → Bounded (plant_of d)

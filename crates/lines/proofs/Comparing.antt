@@ -1,5 +1,5 @@
 -- Two numbers of 64 bits, compared by the code.
-use Rattle.std.proofs.Common.{◌≡◌, ℕ, ◌≤◌, Bool, true, false, ◌&&◌, ℤ, pos, ◌-ℤ◌, ◌*ℤ◌, nat_abs, sym, refl, ap, ◌∙◌, w32, w64, SFits, to_z, of_z}
+use Rattle.std.proofs.Common.{◌≡◌, ℕ, ◌≤◌, Bool, true, false, ℤ, pos, ◌-ℤ◌, ◌*ℤ◌, nat_abs, refl, ap, ◌∙◌, w32, w64, SFits, to_z, of_z}
 use lib.Signed.{le_z, lt_z}
 use Rattle.std.proofs.lemmas.Int.{to_z-of_z}
 use Rattle.barriers.specs.Tests.{compares?}

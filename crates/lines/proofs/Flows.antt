@@ -1,5 +1,5 @@
 -- The flow number, computed in 64 bits from two sides.
-use Rattle.std.proofs.Common.{◌≡◌, ℕ, ◌*◌, ◌≤◌, List, get_or, ℤ, pos, ◌-ℤ◌, ◌*ℤ◌, nat_abs, refl, ap, ◌∙◌, mul-le-mul_right, arith, w64, SFits, to_z, of_z}
+use Rattle.std.proofs.Common.{◌≡◌, ℕ, ◌≤◌, List, get_or, ℤ, pos, ◌-ℤ◌, ◌*ℤ◌, nat_abs, refl, ◌∙◌, arith, w64, SFits, to_z, of_z}
 use Rattle.std.proofs.lemmas.Int.{to_z-of_z}
 use Rattle.plant.specs.Limits.{most_tanks, most_weight}
 use Rattle.plant.specs.Walk.{Marking, held}

@@ -2,7 +2,6 @@
 use Rattle.std.proofs.Common.{◌≡◌, ℕ, ◌+◌, ◌*◌, ◌^◌, ◌<◌, ◌≤◌, ℤ, pos, ◌-ℤ◌, ◌*ℤ◌, nat_abs, refl, arith, w64, SFits, to_z, of_z}
 use lib.IntN.{*ℤ_comm}
 use Rattle.std.proofs.lemmas.Int.{ints}
-use Rattle.barriers.proofs.Integers.{linear}
 use Rattle.lines.specs.Limits.{most_valve_side}
 use Rattle.lines.proofs.Adding.{fits, back, unsigned, product_small}
 

@@ -1,5 +1,5 @@
 -- The line that a table of weights is.
-use Rattle.std.specs.Prelude.{ℕ, pos, slice_index_or}
+use Rattle.std.specs.Prelude.{pos, slice_index_or}
 use Rattle.barriers.specs.Lines.{Line}
 use Rattle.lines.specs.declared.line.LineWeights.{LineWeights}
 

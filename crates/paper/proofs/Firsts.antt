@@ -5,7 +5,7 @@ use Rattle.words.specs.Faults.{onward}
 use Rattle.paper.specs.Runs.{run}
 use Rattle.paper.specs.PlantForm.{plant_step}
 use Rattle.paper.specs.TotalsForm.{totals_step}
-use Rattle.paper.specs.First.{Passes, none, more, Reached, First, PapersAreRefusedAtTheFirstFault}
+use Rattle.paper.specs.First.{none, more, Reached, First, PapersAreRefusedAtTheFirstFault}
 
 further : (at : ℕ) (ws : List ℕ) (w : ℕ) → at + 1 + length ws ≡ at + length (w ∷ ws)
 further at ws w = omega arith

@@ -1,7 +1,6 @@
 -- What a paper plant is made of: the counts of a good paper and its arcs, or nothing.
-use Rattle.std.proofs.Common.{◌≡◌, ℕ, zero, suc, ◌+◌, ◌-◌, ◌/◌, ◌^◌, ◌<◌, ◌≤◌, Bool, true, false, cond, ◌&&◌, eqb, ltb, leb, List, [], ◌∷◌, map, length, get_or, take, drop, Ok, Err, Result, sym, refl, ap, ◌∙◌, subst, ⊎_elim, arith}
+use Rattle.std.proofs.Common.{◌≡◌, ℕ, zero, suc, ◌+◌, ◌-◌, ◌/◌, ◌^◌, ◌≤◌, Bool, true, false, cond, ◌&&◌, ltb, List, [], ◌∷◌, length, take, drop, Ok, Err, Result, sym, refl, ap, ◌∙◌, subst, ⊎_elim, arith}
 use Rattle.std.proofs.lemmas.Bool.{le-ltb}
-use Rattle.std.proofs.lemmas.Bool.Decides.{nat_tests}
 use Rattle.plant.specs.Limits.{most_tanks, most_valves}
 use Rattle.plant.specs.Net.{empty}
 use Rattle.plant.specs.declared.question.Counts.{Counts}
@@ -14,7 +13,7 @@ use Rattle.paper.specs.declared.plant_form.PlantForm.{PlantForm}
 use Rattle.paper.specs.declared.plant_form.PlantForm.TheVariants.{Head, Arcs}
 use Rattle.paper.specs.Runs.{run}
 use Rattle.paper.specs.Limits.{most_plant_words}
-use Rattle.paper.specs.Arcs.{PlantDocument, arc_of, plant_document, plant_of}
+use Rattle.paper.specs.Arcs.{PlantDocument, plant_document, plant_of}
 use Rattle.paper.specs.PlantForm.{plant_step, plant_form, plant_read, plant_counts, plant_made}
 use Rattle.paper.specs.Plants.{Rises, Sided, arcs_plant}
 use Rattle.paper.proofs.Steps.{through}

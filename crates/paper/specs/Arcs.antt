@@ -1,5 +1,5 @@
 -- A plant paper as a document: the two counts and the arcs, each with what its valve takes from or gives to its tank.
-use Rattle.std.specs.Prelude.{◌≡◌, ℕ, suc, ◌+◌, ◌*◌, ◌^◌, ◌<◌, ◌≤◌, Bool, true, false, cond, not, ◌&&◌, List, [], ◌∷◌, map, length, ◌==◌, nat_lt}
+use Rattle.std.specs.Prelude.{ℕ, suc, ◌+◌, ◌*◌, ◌^◌, ◌<◌, ◌≤◌, Bool, true, false, cond, not, ◌&&◌, List, [], ◌∷◌, map, length, ◌==◌, nat_lt}
 use Rattle.std.specs.List.{AllByRecursion as All}
 use Rattle.plant.specs.Limits.{most_tanks, most_valves, most_weight}
 use Rattle.plant.specs.Net.{Net}

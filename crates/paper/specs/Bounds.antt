@@ -1,5 +1,5 @@
 -- A paper plant keeps the limits. These are proofs; they stand here because each plant has to show them with its meaning.
-use Rattle.std.specs.Prelude.{◌≡◌, ℕ, ◌/◌, ◌%◌, ◌^◌, ◌<◌, ◌≤◌, Bool, true, false, cond, ◌&&◌, List, [], ◌∷◌, map, nat_lt, refl}
+use Rattle.std.specs.Prelude.{ℕ, ◌/◌, ◌^◌, ◌≤◌, Bool, true, false, cond, ◌&&◌, List, [], ◌∷◌, map, nat_lt}
 use Rattle.std.proofs.Common.{mod-lt, le_of_suc-le-suc, lit<, lit≤}
 use Rattle.std.proofs.lemmas.Bool.{cond_both, cond-false, and_left, and_right, le-ltb}
 use Rattle.plant.specs.Limits.{most_tanks, most_valves, most_weight}

@@ -1,7 +1,7 @@
 -- What a paper plant means, and that the arcs it searches rise.
 use Rattle.std.specs.Prelude.{ℕ, ◌/◌, ◌^◌, ◌<◌, ◌≤◌, cond, List, [], ◌∷◌, map, length, Some, None, Option, ◌==◌, slice_index}
 use Rattle.plant.specs.Net.{Net}
-use Rattle.words.specs.Words.{words, kind}
+use Rattle.words.specs.Words.{kind}
 use Rattle.paper.specs.Arcs.{arc_of, plant_of}
 
 -- each arc's kind, valve and tank, its top 16 bits, are above those of the arcs before it

@@ -3,7 +3,7 @@ use Rattle.std.proofs.Common.{◌≡◌, ℕ, ◌<◌, Bool, true, false, not, �
 use Rattle.std.proofs.lemmas.Bool.{and_parts, and_from, and_left, and_right, and_cases, not-true, not-false, not_from_true, not_from_false, cases_Bool, true≢false}
 use Rattle.plant.specs.Net.{Net}
 use Rattle.plant.specs.Walk.{Marking}
-use Rattle.plant.specs.Starting.{Starts, InGreatest}
+use Rattle.plant.specs.Starting.{Starts}
 use Rattle.walks.specs.Rounds.{greatest}
 use Rattle.walks.specs.Theorems.{Inside}
 use Rattle.walks.proofs.Closure.{greatest_sound, greatest_complete, starts_all, all_starts}

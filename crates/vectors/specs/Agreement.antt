@@ -1,5 +1,5 @@
 -- When a line of the table agrees with the rules.
-use Rattle.std.specs.Prelude.{ℕ, Bool, true, false, List, [], ◌∷◌, ◌++◌, Some, None, Option}
+use Rattle.std.specs.Prelude.{ℕ, Bool, false, List, [], ◌∷◌, ◌++◌, Some, None, Option}
 use Rattle.std.specs.Str.{bytes_eq}
 use Rattle.dossier.specs.Judging.{judged}
 use Rattle.dossier.specs.Line.{line_of}

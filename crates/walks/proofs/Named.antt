@@ -1,9 +1,9 @@
 -- Which valves a list of firings names.
-use Rattle.std.proofs.Common.{◌≡◌, ℕ, zero, suc, ◌+◌, ◌*◌, ◌<◌, ◌≤◌, Bool, true, false, cond, ◌||◌, eqb, ltb, ◌⊎◌, List, [], ◌∷◌, ◌++◌, map, reverse, sym, refl, ap, ◌∙◌, inl, inr, ⊎_elim, arith}
+use Rattle.std.proofs.Common.{◌≡◌, ℕ, zero, suc, ◌<◌, ◌≤◌, true, false, ◌||◌, eqb, ltb, ◌⊎◌, List, [], ◌∷◌, ◌++◌, map, reverse, sym, refl, ap, inl, inr, ⊎_elim, arith}
 use mathlib.Core.List.{reverse_aux}
 use Rattle.std.proofs.lemmas.Bool.{eqb-true, eq-eqb, or_cases, or_left, or_right, false≢true, cases_eq, cond_both, ltb-true, ltb-false}
 use Rattle.plant.specs.Walk.{Firing}
-use Rattle.plant.specs.Firings.{named, total, upto}
+use Rattle.plant.specs.Firings.{named, upto}
 use Rattle.plant.specs.Totals.{Positive, Rising}
 use Rattle.walks.proofs.Runs.{scaled}
 

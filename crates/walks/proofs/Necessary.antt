@@ -1,9 +1,9 @@
 -- The totals of a walk meet the rule.
-use Rattle.std.proofs.Common.{◌≡◌, ℕ, zero, suc, ◌+◌, ◌*◌, ◌<◌, ◌≤◌, Bool, true, false, ◌||◌, eqb, ◌⊎◌, List, [], ◌∷◌, reverse, get_or, sym, refl, ap, ◌∙◌, inl, inr, ⊎_elim, mul-le-mul, mul-zero, arith}
+use Rattle.std.proofs.Common.{◌≡◌, ℕ, ◌*◌, ◌<◌, ◌≤◌, Bool, true, false, eqb, ◌⊎◌, List, [], ◌∷◌, reverse, refl, inl, inr, ⊎_elim, mul-le-mul, mul-zero, arith}
 use Rattle.std.proofs.lemmas.Bool.{eqb-true, eq-eqb, or_cases, or_left, or_right, false≢true, cases_lt}
 use Rattle.plant.specs.Net.{Net, Bounded, turned}
-use Rattle.plant.specs.Walk.{Firing, Marking, Fires, Leads, stays, fires, times, Walk, held}
-use Rattle.plant.specs.Firings.{weighed, taken, given, total, named, upto, totals}
+use Rattle.plant.specs.Walk.{Firing, Marking, Leads, stays, fires, times, Walk, held}
+use Rattle.plant.specs.Firings.{weighed, total, named, totals}
 use Rattle.plant.specs.Starting.{Among, Given, InOrder, Starts}
 use Rattle.plant.specs.Totals.{Tallied, Meets}
 use Rattle.walks.specs.Theorems.{Inside}
@@ -11,7 +11,7 @@ use Rattle.walks.proofs.Orders.{given_later}
 use Rattle.walks.proofs.Closure.{starts_from}
 use Rattle.walks.proofs.Runs.{state, leads_reversed}
 use Rattle.walks.proofs.Named.{named_upto, upto_names, positive_upto, rising_upto, named_reverse, reverse_named}
-use Rattle.walks.proofs.Sums.{sum, Below, regroup, weighed_upto, total_named, named_total}
+use Rattle.walks.proofs.Sums.{Below, regroup, weighed_upto, total_named, named_total}
 use Rattle.walks.proofs.Wider.{run_open, run_positive}
 use Rattle.walks.proofs.Sufficient.{open_below}
 

@@ -1,11 +1,11 @@
 -- Runs: composed, scaled, put on top of something, turned round.
-use Rattle.std.proofs.Common.{◌≡◌, ℕ, zero, suc, ◌+◌, ◌-◌, ◌*◌, ◌<◌, ◌≤◌, true, List, [], ◌∷◌, ◌++◌, map, reverse, sym, refl, ap, ◌∙◌, mul_assoc, add-mul, mul-le-mul_left, mul-add, arith}
+use Rattle.std.proofs.Common.{◌≡◌, ℕ, ◌+◌, ◌-◌, ◌*◌, ◌<◌, ◌≤◌, true, List, [], ◌∷◌, ◌++◌, map, reverse, sym, refl, ap, mul-le-mul_left, arith}
 use mathlib.Core.List.{reverse_aux}
 use native.Mathlib.Nat.{one-le-mul}
 use Rattle.std.specs.List.{AllByRecursion as All}
 use Rattle.plant.specs.Net.{Net, turned}
 use Rattle.plant.specs.Walk.{Firing, Marking, Fires, Leads, stays, fires, Walk}
-use Rattle.plant.specs.Firings.{weighed, taken, given}
+use Rattle.plant.specs.Firings.{taken, given}
 
 -- a marking c times over, a firing c times over, and one marking on top of another
 abbrev pub fold : ℕ → Marking → Marking

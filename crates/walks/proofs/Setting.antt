@@ -1,15 +1,14 @@
 -- From a set that starts: a run that fires its valves and leaves something in every tank that they touch.
-use Rattle.std.proofs.Common.{◌≡◌, ℕ, zero, suc, ◌+◌, ◌-◌, ◌*◌, ◌<◌, ◌≤◌, Bool, true, false, ◌||◌, eqb, ◌⊎◌, List, [], ◌∷◌, ◌++◌, map, sym, refl, ap, ◌∙◌, inl, inr, ⊎_elim, mul-le-mul_left, arith}
+use Rattle.std.proofs.Common.{◌≡◌, ℕ, ◌+◌, ◌-◌, ◌*◌, ◌<◌, ◌≤◌, Bool, true, ◌⊎◌, List, [], ◌∷◌, ◌++◌, map, sym, refl, ◌∙◌, inl, inr, ⊎_elim, arith}
 use mathlib.Core.List.{reverse_aux}
-use native.Mathlib.Nat.{one-le-mul}
-use Rattle.std.proofs.lemmas.Bool.{eqb-true, or_cases, or_left, or_right, false≢true, cases_lt}
+use Rattle.std.proofs.lemmas.Bool.{false≢true, cases_lt}
 use Rattle.plant.specs.Net.{Net, Bounded}
-use Rattle.plant.specs.Walk.{Firing, Marking, Fires, Leads, stays, fires}
+use Rattle.plant.specs.Walk.{Firing, Marking, Leads, stays, fires}
 use Rattle.plant.specs.Firings.{named}
 use Rattle.plant.specs.Starting.{Among, Given, InOrder, Starts}
 use Rattle.walks.proofs.Orders.{among_cases, among_from}
 use Rattle.walks.proofs.Named.{named_append, named_scaled, named_single}
-use Rattle.walks.proofs.Runs.{leads_on, leads_scaled, leads_between, same, scaled, fold}
+use Rattle.walks.proofs.Runs.{leads_on, leads_scaled, leads_between, same, scaled}
 
 -- a valve takes from the tank or gives to it
 abbrev pub Touches : Net → ℕ → ℕ → Type 0

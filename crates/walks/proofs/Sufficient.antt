@@ -1,17 +1,16 @@
 -- Totals that meet the rule account for a walk.
-use Rattle.std.proofs.Common.{◌≡◌, ℕ, zero, suc, ◌+◌, ◌-◌, ◌*◌, ◌<◌, ◌≤◌, Bool, true, false, ◌⊎◌, List, [], ◌∷◌, ◌++◌, map, reverse, get_or, sym, refl, ap, ◌∙◌, inl, inr, ⊎_elim, mul-le-mul_right, mul_assoc, add-mul, mul-le-mul, mul-le-mul_left, mul-zero, arith}
+use Rattle.std.proofs.Common.{◌≡◌, ℕ, zero, suc, ◌+◌, ◌-◌, ◌*◌, ◌<◌, ◌≤◌, true, false, List, [], ◌∷◌, ◌++◌, map, reverse, sym, ap, ◌∙◌, inl, inr, ⊎_elim, mul_assoc, add-mul, mul-le-mul_left, mul-zero, arith}
 use native.Mathlib.Nat.{one-le-mul}
 use Rattle.std.specs.List.{AllByRecursion as All}
 use Rattle.std.proofs.lemmas.Bool.{cases_lt, cases_Bool, false≢true, true≢false}
 use Rattle.plant.specs.Net.{Net, Bounded, turned}
 use Rattle.plant.specs.Bounds.{turned_bounded}
-use Rattle.plant.specs.Walk.{Firing, Marking, Fires, Leads, stays, fires, times, Walk, held}
+use Rattle.plant.specs.Walk.{Firing, Marking, Leads, stays, times, held}
 use Rattle.plant.specs.Firings.{weighed, taken, given, total, named, upto, WalkBy}
-use Rattle.plant.specs.Starting.{Starts}
 use Rattle.plant.specs.Totals.{Positive, Tallied, Meets}
 use Rattle.walks.proofs.Runs.{fold, on, scaled, leads_on, leads_between, leads_scaled, leads_above, leads_whole, leads_reversed, same, state, Ready}
 use Rattle.walks.proofs.Named.{named_append, named_scaled, named_reverse, named_upto, positive_upto, named_head, named_tail}
-use Rattle.walks.proofs.Sums.{sum, sum_ext, sum_add, sum_times, Below, regroup, weighed_upto, weighed_append, weighed_le, weighed_by, amounts, total_le, total_named, total_unnamed}
+use Rattle.walks.proofs.Sums.{sum_ext, sum_add, sum_times, Below, regroup, weighed_upto, weighed_append, weighed_le, weighed_by, amounts, total_le, total_named, total_unnamed}
 use Rattle.walks.proofs.Setting.{Set, set_by}
 
 -- only valves of the plant are open

@@ -1,6 +1,6 @@
 -- Sums of firings, regrouped by valve.
-use Rattle.std.proofs.Common.{◌≡◌, ℕ, zero, suc, ◌+◌, ◌-◌, ◌*◌, ◌<◌, ◌≤◌, Bool, true, false, cond, ◌||◌, eqb, ltb, ◌⊎◌, List, [], ◌∷◌, ◌++◌, map, sym, refl, ap, ◌∙◌, inl, inr, ⊎_elim, mul-le-mul_right, mul_assoc, add-mul, mul-le-mul_left, mul-zero, zero-mul, mul-add, arith}
-use Rattle.std.proofs.lemmas.Bool.{eqb-true, eqb-false, eq-eqb, ne_eqb, cond-true, cond-false, cases_Bool, cases_eq, cases_lt, or_left, or_right, or_cases, or_parts, false≢true, lt-ltb, ltb-true, ltb-false}
+use Rattle.std.proofs.Common.{◌≡◌, ℕ, zero, suc, ◌+◌, ◌*◌, ◌<◌, ◌≤◌, Bool, true, false, cond, eqb, List, [], ◌∷◌, ◌++◌, sym, refl, ⊎_elim, add-mul, mul-le-mul_left, mul-zero, zero-mul, arith}
+use Rattle.std.proofs.lemmas.Bool.{eq-eqb, ne_eqb, cases_Bool, cases_eq, cases_lt, or_right, or_cases, or_parts, false≢true}
 use Rattle.plant.specs.Walk.{Firing}
 use Rattle.plant.specs.Firings.{weighed, total, named, upto}
 use Rattle.plant.specs.Totals.{Positive}

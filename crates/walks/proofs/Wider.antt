@@ -1,8 +1,8 @@
 -- A walk of a plant is a walk of every plant with the same weights in which its valves are open.
-use Rattle.std.proofs.Common.{◌≡◌, ℕ, ◌+◌, ◌*◌, ◌<◌, ◌≤◌, Bool, true, false, not, ◌&&◌, ◌||◌, eqb, ◌⊎◌, List, [], ◌∷◌, sym, refl, ap, ◌∙◌, subst, inl, inr, ⊎_elim, arith}
-use Rattle.std.proofs.lemmas.Bool.{eqb-true, eq-eqb, or_left, or_right, or_cases, and_parts, false≢true}
+use Rattle.std.proofs.Common.{◌≡◌, ℕ, Bool, true, not, eqb, List, refl, ⊎_elim}
+use Rattle.std.proofs.lemmas.Bool.{eqb-true, or_right, or_cases, and_parts, false≢true}
 use Rattle.plant.specs.Net.{Net, narrowed}
-use Rattle.plant.specs.Walk.{Firing, Marking, Fires, Leads, stays, fires, Walk}
+use Rattle.plant.specs.Walk.{Firing, Marking, Leads, stays, fires, Walk}
 use Rattle.plant.specs.Firings.{named}
 use Rattle.plant.specs.Totals.{Positive}
 use Rattle.walks.specs.Theorems.{SameWeights}

@@ -1,7 +1,7 @@
 -- The theorems on walks, totals and starting.
 use Rattle.std.specs.Prelude.{◌≡◌, ℕ, ◌<◌, Bool, true, List, reverse}
 use Rattle.plant.specs.Net.{Net, Bounded, turned, narrowed}
-use Rattle.plant.specs.Walk.{Firing, Marking, Leads, Walk}
+use Rattle.plant.specs.Walk.{Firing, Marking, Walk}
 use Rattle.plant.specs.Firings.{named, totals, WalkBy}
 use Rattle.plant.specs.Starting.{Starts, InGreatest}
 use Rattle.plant.specs.Totals.{Tallied, Meets}

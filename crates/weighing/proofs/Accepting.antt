@@ -1,10 +1,10 @@
 -- A weighing answers JOINED exactly when the totals are accepted; accepted totals have a walk, and the totals of a walk are accepted.
-use Rattle.std.proofs.Common.{◌≡◌, ℕ, zero, suc, ◌+◌, ◌<◌, ◌≤◌, Bool, true, false, cond, eqb, ltb, ◌⊎◌, List, [], ◌∷◌, length, get_or, Some, None, Ok, Err, Result, sym, refl, ap, ◌∙◌, inl, inr, ⊎_elim, arith}
+use Rattle.std.proofs.Common.{◌≡◌, ℕ, zero, suc, ◌<◌, ◌≤◌, Bool, true, false, cond, eqb, ltb, List, [], ◌∷◌, length, None, Ok, Err, Result, refl, ap, ◌∙◌, ⊎_elim, arith}
 use Rattle.std.specs.List.{AllByRecursion as All}
 use Rattle.std.proofs.ByRecursion.{All-weaker}
 use Rattle.std.proofs.lemmas.List.{get_or_past}
-use Rattle.std.proofs.lemmas.Bool.{cases_Bool, cases_lt, cond-true, cond-false, eqb-true, eq-eqb, le-ltb, ltb-false}
-use Rattle.plant.specs.Limits.{most_amount, most_valves, most_divisor, most_total}
+use Rattle.std.proofs.lemmas.Bool.{cases_lt, cond-true, eqb-true, eq-eqb, le-ltb, ltb-false}
+use Rattle.plant.specs.Limits.{most_amount}
 use Rattle.plant.specs.Net.{Net, Bounded}
 use Rattle.plant.specs.Walk.{Firing, Walk, held}
 use Rattle.plant.specs.Firings.{named, total, totals, upto, WalkBy}
@@ -13,18 +13,14 @@ use Rattle.walks.proofs.Sufficient.{sufficient}
 use Rattle.walks.proofs.Necessary as Necessary
 use Rattle.words.specs.Faults.{onward, raised}
 use Rattle.words.specs.Inverse.{Bytes}
-use Rattle.paper.specs.Totals.{TotalsDocument, TotalFits, TotalsFormed, totals_paper}
+use Rattle.paper.specs.Totals.{TotalFits, TotalsFormed, totals_paper}
 use Rattle.paper.specs.TotalsForm.{totals_read}
 use Rattle.paper.proofs.Steps.{through}
 use Rattle.paper.proofs.TotalsExact.{formed_of_read, totals_papers_are_exact, tallied, rising_few}
-use Rattle.starting.specs.Starting.{first_below}
 use Rattle.starting.proofs.Firsts.{first_none, none_first}
-use Rattle.weighing.specs.declared.faults.Verdict.{Verdict}
 use Rattle.weighing.specs.declared.faults.Verdict.TheVariants.{Joined}
 use Rattle.weighing.specs.declared.faults.Side.TheVariants.{Source, Target}
-use Rattle.weighing.specs.declared.faults.QuestionFault.{QuestionFault}
-use Rattle.weighing.specs.declared.faults.QuestionFault.TheVariants.{Length, Amount}
-use Rattle.weighing.specs.declared.faults.WeighingFault.{WeighingFault}
+use Rattle.weighing.specs.declared.faults.QuestionFault.TheVariants.{Amount}
 use Rattle.weighing.specs.declared.faults.WeighingFault.TheVariants.{Question, Paper, Totals}
 use Rattle.weighing.specs.Question.{refusing, over, asked, Filling}
 use Rattle.weighing.specs.Judgement.{judged}

@@ -1,16 +1,14 @@
 -- Each of the searches of a judgement against the condition that it looks for.
-use Rattle.std.proofs.Common.{◌≡◌, ℕ, zero, suc, ◌+◌, ◌*◌, ◌<◌, ◌≤◌, Bool, true, false, cond, not, ◌||◌, eqb, ltb, ◌⊎◌, List, [], ◌∷◌, ◌++◌, length, get_or, Some, None, Ok, Err, Option, Result, sym, refl, ap, ◌∙◌, subst, inl, inr, ⊎_elim, arith}
-use Rattle.std.proofs.lemmas.List.{get_or_past}
-use Rattle.std.proofs.lemmas.Bool.{cases_Bool, cases_lt, cond-true, cond-false, or_cases, or_left, or_right, eqb-true, eqb-false, eq-eqb, ne_eqb, not-true, not-false, not_from_true, not_from_false, le-ltb, ltb-false, false≢true, true≢false}
-use Rattle.plant.specs.Limits.{most_amount}
+use Rattle.std.proofs.Common.{◌≡◌, ℕ, ◌+◌, ◌<◌, Bool, true, false, not, eqb, ◌⊎◌, List, [], ◌∷◌, ◌++◌, length, Some, None, Ok, Err, Option, Result, sym, refl, ap, ◌∙◌, subst, inl, inr, ⊎_elim, arith}
+use Rattle.std.proofs.lemmas.Bool.{cases_Bool, cond-true, cond-false, or_cases, or_left, or_right, eqb-true, eq-eqb, not-false, not_from_true, false≢true, true≢false}
 use Rattle.plant.specs.Net.{Net, Bounded, turned}
 use Rattle.plant.specs.Walk.{Firing, held}
-use Rattle.plant.specs.Firings.{given, taken, named}
+use Rattle.plant.specs.Firings.{named}
 use Rattle.plant.specs.Starting.{Starts}
 use Rattle.plant.specs.Totals.{Meets}
 use Rattle.walks.specs.Theorems.{Inside}
 use Rattle.walks.proofs.Sufficient.{open_below}
-use Rattle.starting.specs.Starting.{first_below, left_out}
+use Rattle.starting.specs.Starting.{left_out}
 use Rattle.starting.proofs.Firsts.{first_none, none_first, some_first}
 use Rattle.starting.proofs.LeftOut.{left_none, none_left, left_some}
 use Rattle.paper.specs.Totals.{TotalsDocument}
@@ -20,8 +18,8 @@ use Rattle.weighing.specs.declared.faults.TotalsFault.{TotalsFault}
 use Rattle.weighing.specs.declared.faults.TotalsFault.TheVariants.{Closed, Unbalanced, NoStart, NoEnd}
 use Rattle.weighing.specs.Question.{refusing}
 use Rattle.weighing.specs.Judgement.{closed_at, balance_side, unbalanced, judged}
-use Rattle.weighing.specs.Refused.{AllOpen, FirstClosed, Balances, FirstUnbalanced, Refused, TotalsAreJudgedExactly}
-use Rattle.weighing.proofs.Judging.{by_finds, judged_by}
+use Rattle.weighing.specs.Refused.{AllOpen, FirstClosed, Balances, FirstUnbalanced, Refused}
+use Rattle.weighing.proofs.Judging.{judged_by}
 
 some≢none : {x : ℕ} → Some x ≡ None → ⊥
 some≢none e = let z : ◌≡◌ {A = ℕ} 0 1 = cc in omega arith

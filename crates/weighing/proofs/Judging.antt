@@ -1,5 +1,5 @@
 -- The four conditions in their order.
-use Rattle.std.proofs.Common.{◌≡◌, ℕ, Bool, List, Some, None, Ok, Err, Option, Result, sym, ap, ◌∙◌}
+use Rattle.std.proofs.Common.{◌≡◌, ℕ, Bool, List, Ok, Option, Result, ap, ◌∙◌}
 use mathlib.Core.Path.{fun_ext}
 use Rattle.plant.specs.Net.{Net, turned}
 use Rattle.plant.specs.Walk.{Marking, held}

@@ -1,5 +1,5 @@
 -- The number, the place and the part of the program that each fault of a weighing names.
-use Rattle.std.specs.Prelude.{ℕ, ◌+◌}
+use Rattle.std.specs.Prelude.{◌+◌}
 use Rattle.words.specs.Faults.{of_paper}
 use Rattle.words.specs.declared.faults.Part.TheVariants.{Question as InQuestion, Weighing as InWeighing}
 use Rattle.words.specs.declared.faults.Refusal.{Refusal}

@@ -1,5 +1,5 @@
 -- The judgement of totals on a plant: the first of the four conditions that fails, at its lowest place.
-use Rattle.std.specs.Prelude.{ℕ, ◌+◌, ◌*◌, cond, not, List, [], ◌∷◌, Some, None, Ok, Err, Option, Result, ◌==◌}
+use Rattle.std.specs.Prelude.{ℕ, ◌+◌, ◌*◌, cond, not, List, [], ◌∷◌, Some, None, Ok, Option, Result, ◌==◌}
 use Rattle.plant.specs.Net.{Net, turned}
 use Rattle.plant.specs.Walk.{Firing, held}
 use Rattle.plant.specs.Firings.{given, named}

@@ -3,7 +3,6 @@ use Rattle.std.specs.Prelude.{◌≡◌, ℕ, ◌≤◌, cond, List, length, Som
 use Rattle.plant.specs.Limits.{most_amount}
 use Rattle.plant.specs.Walk.{held}
 use Rattle.starting.specs.Starting.{first_below}
-use Rattle.weighing.specs.declared.faults.Side.{Side}
 use Rattle.weighing.specs.declared.faults.Side.TheVariants.{Source, Target}
 use Rattle.weighing.specs.declared.faults.QuestionFault.{QuestionFault}
 use Rattle.weighing.specs.declared.faults.QuestionFault.TheVariants.{Length, Amount}

@@ -1,5 +1,5 @@
 -- Words written as bytes are read back, and bytes read as words are written back.
-use Rattle.std.proofs.Common.{◌≡◌, ℕ, ◌+◌, ◌*◌, ◌/◌, ◌%◌, ◌^◌, ◌<◌, List, [], ◌∷◌, length, refl, ap, ◌∙◌, arith}
+use Rattle.std.proofs.Common.{◌≡◌, ℕ, ◌/◌, ◌%◌, ◌^◌, ◌<◌, List, [], ◌∷◌, length, refl, ap, ◌∙◌, arith}
 use Rattle.words.specs.Words.{words, bytes, word}
 use Rattle.words.specs.Inverse.{Bytes, Words, WordsAndBytesAgree}
 

@@ -1,5 +1,5 @@
-use Rattle.std.proofs.Common.{◌≡◌, arith}
-use Rattle.lines.proofs.Filling.{written_none, written_more, written_all}
+use Rattle.std.proofs.Common.{arith}
+use Rattle.lines.proofs.Filling.{written_none, written_more}
 use Rattle.lines.proofs.columns.intake_column.Goals as goal
 
 pub loop-tank-init : goal.loop-tank-init

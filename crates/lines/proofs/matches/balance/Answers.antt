@@ -1,4 +1,4 @@
-use Rattle.std.proofs.Common.{◌≡◌, get_or, pos, ap, ◌∙◌}
+use Rattle.std.proofs.Common.{get_or, pos, ap, ◌∙◌}
 use Rattle.barriers.specs.Lines.{side}
 use Rattle.lines.proofs.Flows.{valve_side_small, flow_back}
 use Rattle.lines.proofs.matches.balance.Goals as goal

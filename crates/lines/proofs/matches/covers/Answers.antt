@@ -1,4 +1,4 @@
-use Rattle.std.proofs.Common.{◌≡◌, get_or, pos, ap, ◌∙◌, w64}
+use Rattle.std.proofs.Common.{get_or, pos, ap, ◌∙◌, w64}
 use lib.Signed.{le_z}
 use Rattle.std.proofs.lemmas.Int.{to_z-of_z}
 use Rattle.lines.proofs.Comparing.{tank_number}

@@ -1,4 +1,4 @@
-use Rattle.std.proofs.Common.{◌≡◌, sym, ap, ◌∙◌, w64}
+use Rattle.std.proofs.Common.{sym, ap, ◌∙◌, w64}
 use Rattle.std.proofs.lemmas.Int.{to_z-of_z}
 use Rattle.barriers.specs.Steps.{flow}
 use Rattle.lines.specs.OfLine.{line_meant}

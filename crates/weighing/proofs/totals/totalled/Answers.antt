@@ -1,4 +1,4 @@
-use Rattle.std.proofs.Common.{◌≡◌, ◌<◌, ◌||◌, eqb, ◌∷◌, map, length, sym, refl, ap, ◌∙◌, arith, length-set}
+use Rattle.std.proofs.Common.{◌<◌, ◌||◌, eqb, map, length, sym, refl, ap, ◌∙◌, arith, length-set}
 use Rattle.plant.specs.Firings.{named}
 use Rattle.words.specs.Left.{left}
 use Rattle.paper.specs.Totals.{total_of}

@@ -1,10 +1,9 @@
-use Rattle.std.proofs.Common.{◌≡◌, Some, None, refl, ◌∙◌}
+use Rattle.std.proofs.Common.{Some, None, refl, ◌∙◌}
 use Rattle.plant.specs.Net.{turned}
 use Rattle.plant.specs.Walk.{held}
 use Rattle.plant.specs.Firings.{named}
 use Rattle.paper.specs.OfTotals.{totals_said}
 use Rattle.starting.specs.Starting.{marked, left_out}
-use Rattle.weighing.specs.Judgement.{closed_at, unbalanced}
 use Rattle.weighing.proofs.Judging.{judged_by, same_out}
 use Rattle.weighing.proofs.totals.weigh_totals.Goals as goal
 

@@ -1,4 +1,4 @@
-use Rattle.std.proofs.Common.{◌≡◌, ◌-◌, ◌≤◌, ◌∷◌, length, get_or, take, drop, sym, ap, ◌∙◌, arith, rules}
+use Rattle.std.proofs.Common.{◌≡◌, ◌-◌, ◌≤◌, ◌∷◌, length, get_or, take, drop, ap, ◌∙◌, arith, rules}
 use Rattle.words.specs.Words.{words, word}
 use Rattle.words.proofs.Laws.{words_rest}
 use Rattle.words.proofs.word.first_word.Goals as goal

@@ -1,4 +1,4 @@
-use Rattle.std.proofs.Common.{◌≡◌, ◌/◌, ◌<◌, get_or, Some, sym, ap, ◌∙◌, arith}
+use Rattle.std.proofs.Common.{◌/◌, Some, sym, ap, ◌∙◌, arith}
 use Rattle.words.specs.Words.{words}
 use Rattle.words.proofs.Laws.{read_some, read_none}
 use Rattle.paper.proofs.Searching.{found_at, found_none, passed_by}

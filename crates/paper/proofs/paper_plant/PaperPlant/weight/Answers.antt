@@ -1,4 +1,4 @@
-use Rattle.std.proofs.Common.{Some, None, sym, ◌∙◌}
+use Rattle.std.proofs.Common.{Some, None, ◌∙◌}
 use Rattle.words.specs.Words.{words}
 use Rattle.paper.proofs.Searching.{weighs_found}
 use Rattle.paper.proofs.paper_plant.PaperPlant.weight.Goals as goal

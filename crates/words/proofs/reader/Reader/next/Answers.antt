@@ -1,4 +1,4 @@
-use Rattle.std.proofs.Common.{sym, refl, ◌∙◌}
+use Rattle.std.proofs.Common.{refl}
 use Rattle.words.proofs.Laws.{here, here_inside}
 use Rattle.words.proofs.reader.Reader.next.Goals as goal
 
