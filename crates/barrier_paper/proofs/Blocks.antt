@@ -42,14 +42,18 @@ stop k (w ∷ ws) (inl e) = cond-true _ _ _ (or_left (eqb (kind w) k) (eqb (kind
 stop k (w ∷ ws) (inr e) = cond-true _ _ _ (or_right (eqb (kind w) k) (eqb (kind w) 10) (eq-eqb (kind w) 10 e))
 
 -- a block of kind k begins with a word of that kind, and then come words of higher kinds, but no step
-pub record Blocks {X : Type 0} (k : ℕ) (f : X → List ℕ) (Fits : X → Type 0) : Type 0 where
+pub record Blocks {X : Type 0} (k high : ℕ) (f : X → List ℕ) (Fits : X → Type 0) : Type 0 where
   pub head : X → ℕ
   pub tail : X → List ℕ
   pub made : (x : X) → f x ≡ head x ∷ tail x
   pub head_kind : (x : X) → Fits x → kind (head x) ≡ k
-  pub tail_kinds : (x : X) → Fits x → Kinds (suc k) 9 (tail x)
+  pub tail_kinds : (x : X) → Fits x → Kinds (suc k) high (tail x)
+  pub no_step : Apart (suc k) high 10
 
-module _ {X : Type 0} {k : ℕ} {f : X → List ℕ} {Fits : X → Type 0} (B : Blocks k f Fits) where
+module _ {X : Type 0} {k high : ℕ} {f : X → List ℕ} {Fits : X → Type 0} (B : Blocks k high f Fits) where
+  above : Apart (suc k) high k
+  above j a b e = omega arith
+
   -- the block that is sought is the first, or a later one
   here : (x : X) (ys : List ℕ) → Fits x → from_nth k 0 (f x ++ ys) ≡ f x ++ ys
   here x ys h =
@@ -61,13 +65,13 @@ module _ {X : Type 0} {k : ℕ} {f : X → List ℕ} {Fits : X → Type 0} (B : 
   later n x ys h =
       ap (λ ws. from_nth k (suc n) (ws ++ ys)) (B.made x)
       ∙ (seek_count k n (B.head x) (B.tail x ++ ys) (B.head_kind x h)
-      ∙ skip k n (suc k) 9 (B.tail x) ys (B.tail_kinds x h) (λ j a b e. omega arith))
+      ∙ skip k n (suc k) high (B.tail x) ys (B.tail_kinds x h) above)
 
   -- a block is a part, where the next word ends it
   whole : (x : X) (ys : List ℕ) → Fits x → Stops k ys → part k (f x ++ ys) ≡ f x
   whole x ys h s =
       ap (λ ws. part k (ws ++ ys)) (B.made x)
-      ∙ (ap (λ ws. B.head x ∷ ws) (go_on k (suc k) 9 (B.tail x) ys (B.tail_kinds x h) (λ j a b e. omega arith) (λ j a b e. omega arith) ∙ (ap (λ ws. B.tail x ++ ws) (stop k ys s) ∙ append-nil (B.tail x)))
+      ∙ (ap (λ ws. B.head x ∷ ws) (go_on k (suc k) high (B.tail x) ys (B.tail_kinds x h) above B.no_step ∙ (ap (λ ws. B.tail x ++ ws) (stop k ys s) ∙ append-nil (B.tail x)))
       ∙ sym (B.made x))
 
   stops : (xs : List X) (zs : List ℕ) → All Fits xs → Stops k zs → Stops k (joined f xs ++ zs)
@@ -87,13 +91,13 @@ module _ {X : Type 0} {k : ℕ} {f : X → List ℕ} {Fits : X → Type 0} (B : 
       ∙ nth_block xs zs i d h.1 s (omega arith))
 
   -- beyond the last there is none
-  pub past_blocks : (xs : List X) (low high : ℕ) (zs : List ℕ) (i : ℕ) → All Fits xs → Kinds low high zs → Apart low high k → length xs ≤ i → from_nth k i (joined f xs ++ zs) ≡ []
-  past_blocks [] low high zs i h lack other l = ap (from_nth k i) (sym (append-nil zs)) ∙ skip k i low high zs [] lack other
-  past_blocks (x ∷ xs) low high zs zero h lack other l = absurd (omega arith)
-  past_blocks (x ∷ xs) low high zs (suc i) h lack other l =
+  pub past_blocks : (xs : List X) (low top : ℕ) (zs : List ℕ) (i : ℕ) → All Fits xs → Kinds low top zs → Apart low top k → length xs ≤ i → from_nth k i (joined f xs ++ zs) ≡ []
+  past_blocks [] low top zs i h lack other l = ap (from_nth k i) (sym (append-nil zs)) ∙ skip k i low top zs [] lack other
+  past_blocks (x ∷ xs) low top zs zero h lack other l = absurd (omega arith)
+  past_blocks (x ∷ xs) low top zs (suc i) h lack other l =
       ap (from_nth k (suc i)) (append_assoc (f x) (joined f xs) zs)
       ∙ (later i x (joined f xs ++ zs) h.0
-      ∙ past_blocks xs low high zs i h.1 lack other (omega arith))
+      ∙ past_blocks xs low top zs i h.1 lack other (omega arith))
 
   -- there are as many words of the kind as there are blocks
   pub count_blocks : (xs : List X) → All Fits xs → count_kind k (joined f xs) ≡ length xs
@@ -101,4 +105,4 @@ module _ {X : Type 0} {k : ℕ} {f : X → List ℕ} {Fits : X → Type 0} (B : 
   count_blocks (x ∷ xs) h =
       ap (λ ws. count_kind k (ws ++ joined f xs)) (B.made x)
       ∙ (cond-true (eqb (kind (B.head x)) k) _ _ (eq-eqb (kind (B.head x)) k (B.head_kind x h.0))
-      ∙ ap suc (count_none k (suc k) 9 (B.tail x) (joined f xs) (B.tail_kinds x h.0) (λ j a b e. omega arith) ∙ count_blocks xs h.1))
+      ∙ ap suc (count_none k (suc k) high (B.tail x) (joined f xs) (B.tail_kinds x h.0) above ∙ count_blocks xs h.1))

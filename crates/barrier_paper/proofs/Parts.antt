@@ -1,11 +1,11 @@
 -- The parts of a paper that is the writing of a document are the cases, the lines and the steps of that document.
-use Rattle.std.proofs.Common.{◌≡◌, ℕ, zero, suc, ◌+◌, ◌*◌, ◌^◌, ◌<◌, ◌≤◌, Bool, true, false, cond, eqb, List, [], ◌∷◌, ◌++◌, map, length, get_or, ℤ, pos, ◌+ℤ◌, sym, refl, ap, ◌∙◌, inl, inr, ⊎_elim, arith}
+use Rattle.std.proofs.Common.{◌≡◌, ℕ, zero, suc, ◌*◌, ◌^◌, ◌<◌, ◌≤◌, false, cond, eqb, List, [], ◌∷◌, ◌++◌, map, length, get_or, ℤ, pos, ◌+ℤ◌, sym, refl, ap, ◌∙◌, inl, inr, ⊎_elim, arith}
 use Rattle.std.specs.List.{AllByRecursion as All}
 use Rattle.std.proofs.lemmas.List.{append-nil, get_or-map, get_or_past, length-map}
 use Rattle.std.proofs.ByRecursion.{All-get_or}
 use Rattle.std.proofs.lemmas.Bool.{cond-true, cond-false, cond_both, eq-eqb, ne_eqb, cases_lt}
 use Rattle.std.proofs.lemmas.Int.{ints}
-use Rattle.words.specs.Words.{words, kind, field}
+use Rattle.words.specs.Words.{words, kind}
 use Rattle.words.proofs.Inverses.{words_of_bytes}
 use Rattle.barriers.specs.Lines.{no_line, line_at, case_at}
 use Rattle.barriers.specs.Steps.{Step}
@@ -15,7 +15,8 @@ use Rattle.barrier_paper.specs.Document.{Weight, LineText, CaseText, BarrierDocu
 use Rattle.barrier_paper.specs.Windows.{from_nth, part, count_kind, case_part, line_part, steps_part, before_steps, word_weight, part_weight, part_strict, part_line, line_said}
 use Rattle.barrier_paper.proofs.Seeking.{before_le, seek_found}
 use Rattle.barrier_paper.proofs.Summing.{same_line, said_short}
-use Rattle.barrier_paper.proofs.WordKinds.{line_kind, weight_kind, weight_says, weights_of_line, lines_of_case, cases_kinds, step_kind, steps_kinds, words_small}
+use Rattle.barrier_paper.proofs.WordParts.{line_head, line_good, weight_kind, weight_says}
+use Rattle.barrier_paper.proofs.WordKinds.{line_kind, weights_of_line, lines_of_case, cases_kinds, step_says, steps_kinds, words_small}
 use Rattle.barrier_paper.proofs.Blocks.{Blocks, Stops, skip, go_on, stop, nth_block, past_blocks, count_none, count_blocks}
 
 -- ---- sums of weight words
@@ -57,7 +58,7 @@ module _ (tanks : ℕ) where
 
   pub left_weights : (t : LineText) → LineFits tanks t → (r : ℕ) → part_weight 8 (line_words t) r ≡ weight_of t.lefts r
   left_weights t h r =
-      let head = 7 * 2 ^ 28 + cond t.strict 1 0 in
+      let head = line_head t.strict in
       let lefts = map (weight_word 8) t.lefts in
       let rights = map (weight_word 9) t.rights in
       sums (word_weight 8 head r) (part_weight 8 (lefts ++ rights) r) (part_weight 8 lefts r) (part_weight 8 rights r) (weight_of t.lefts r)
@@ -71,7 +72,7 @@ module _ (tanks : ℕ) where
 
   pub right_weights : (t : LineText) → LineFits tanks t → (r : ℕ) → part_weight 9 (line_words t) r ≡ weight_of t.rights r
   right_weights t h r =
-      let head = 7 * 2 ^ 28 + cond t.strict 1 0 in
+      let head = line_head t.strict in
       let lefts = map (weight_word 8) t.lefts in
       let rights = map (weight_word 9) t.rights in
       sums (word_weight 9 head r) (part_weight 9 (lefts ++ rights) r) (part_weight 9 lefts r) (part_weight 9 rights r) (weight_of t.rights r)
@@ -84,23 +85,20 @@ module _ (tanks : ℕ) where
       sums a s x y v p q m n = omega (arith, ints)
 
   pub strict_bit : (t : LineText) → part_strict (line_words t) ≡ t.strict
-  strict_bit t = at t.strict
-    where
-      at : (b : Bool) → eqb (field (7 * 2 ^ 28 + cond b 1 0) 0 1) 1 ≡ b
-      at true = refl
-      at false = refl
+  strict_bit t = (line_good t.strict).1
 
   -- the words of a line say the line
   pub line_says : (t : LineText) → LineFits tanks t → part_line (line_words t) ≡ line_of t
   line_says t h = same_line _ _ (left_weights t h) (right_weights t h) (strict_bit t)
 
-  line_blocks : Blocks 7 line_words (LineFits tanks)
+  line_blocks : Blocks 7 9 line_words (LineFits tanks)
   line_blocks = record {
-    head = λ t. 7 * 2 ^ 28 + cond t.strict 1 0;
+    head = λ t. line_head t.strict;
     tail = λ t. map (weight_word 8) t.lefts ++ map (weight_word 9) t.rights;
     made = λ t. refl;
     head_kind = λ t _. line_kind t.strict;
     tail_kinds = weights_of_line tanks;
+    no_step = λ j a b e. omega arith;
   }
 
   -- line l of a case
@@ -136,13 +134,14 @@ module _ (tanks : ℕ) where
 
   -- ---- cases
 
-  case_blocks : Blocks 6 case_words (CaseFits tanks)
+  case_blocks : Blocks 6 9 case_words (CaseFits tanks)
   case_blocks = record {
     head = λ _. 6 * 2 ^ 28;
     tail = joined line_words;
     made = λ c. refl;
     head_kind = λ c _. refl;
     tail_kinds = λ c h. lines_of_case tanks c h.lines_fit;
+    no_step = λ j a b e. omega arith;
   }
 
 -- a barrier has as many cases as its document, and each as many lines
@@ -185,7 +184,7 @@ steps_stop tanks valves d f k = at d.steps f.steps_fit
   where
     at : (ss : List Step) → All (StepFits valves d.cases) ss → Stops k (joined step_words ss)
     at [] h = tt
-    at (s ∷ ss) h = inr (step_kind tanks valves d.cases f.few_cases f.cases_fit s h.0)
+    at (s ∷ ss) h = inr (step_says valves d.cases f.few_cases s h.0).kind_is
 
 module _ (tanks valves : ℕ) (d : BarrierDocument) (f : BarrierFormed tanks valves d) (bs : List ℕ) (is : bs ≡ barrier_paper d) where
   pub paper_words : words bs ≡ barrier_words d

@@ -6,9 +6,9 @@ use Rattle.words.specs.Words.{field}
 use Rattle.barriers.specs.Steps.{Match, Step}
 use Rattle.barrier_paper.specs.declared.form.Phase.TheVariants.{Left, Right}
 use Rattle.barrier_paper.specs.declared.form.BarrierForm.{BarrierForm}
-use Rattle.barrier_paper.specs.Document.{Weight, LineText, CaseText, MatchFits, step_key, weight_word, match_word, weight_said, Said, say, nothing_said}
+use Rattle.barrier_paper.specs.Document.{Weight, LineText, CaseText, MatchFits, weight_word, match_word, weight_said, Said, say, nothing_said}
 use Rattle.barrier_paper.specs.Form.{in_phase}
-use Rattle.barrier_paper.proofs.WordParts.{WeightWord, line_head, step_head, weight_good, weight_says, line_good, case_good, match_good, step_good, key_said}
+use Rattle.barrier_paper.proofs.WordParts.{WeightWord, line_head, step_head, weight_good, weight_says, line_good, case_good, match_good, step_word_says, step_good}
 use Rattle.barrier_paper.proofs.Taking.{InCase, lefts_from, rights_from, due, named, Between, least_step, after_case, after_line, after_step, after_match, Taken, a_case, a_line, a_left, a_right, a_step, a_match, left_in_case, right_in_case, none_between}
 use Rattle.barrier_paper.proofs.States.{Sound, room}
 use Rattle.barrier_paper.proofs.Fronts.{Weights, Body, Front, no_weights, quiet, tail_waits, case_counts, line_counts, counts_end, count_at, length_counts}
@@ -33,7 +33,7 @@ record FirstWeight (k tanks : ℕ) (o : Option ℕ) (x : Weight) (xs : List Weig
 first_weight : (k tanks : ℕ) (o : Option ℕ) (x : Weight) (xs : List Weight) → Weights tanks o (x ∷ xs) → FirstWeight k tanks o x xs
 first_weight k tanks None x xs f = absurd (let z : ◌≡◌ {A = ℕ} 0 1 = cc in omega arith)
 first_weight k tanks (Some least) x xs f =
-    let says = weight_says k tanks x f.0.0 in
+    let says = weight_says tanks k x f.0.0 in
     record {
       least = least;
       from = refl;
@@ -173,11 +173,12 @@ module _ (counts : List ℕ) (s : BarrierForm) (sound : Sound s) where
       let n : length counts ≡ s.last + 1 = ap length e ∙ length_counts s.lines s.last (room s sound) in
       let from : st.from ≤ s.last = omega (arith, fit.from_there) in
       let to : st.to ≤ s.last = omega (arith, fit.to_there) in
-      let w = step_good s.last s.valves (least_step s.phase) st sound.last_there from fit.valve_there fit.valve_small to t.steps_rise.0 in
+      let last = sound.last_there in
+      let says = step_word_says st (omega arith) fit.valve_small (omega arith) in
       let h = step_head st in
-      let to_is : field h 13 4 ≡ st.to = ap (λ x. x.to) w.1 in
-      let from_is : field h 23 4 ≡ st.from = ap (λ x. x.from) w.1 in
-      let key_is : field h 17 11 ≡ step_key st = sym (key_said h st.matches) ∙ ap step_key w.1 in
+      let to_is : field h 13 4 ≡ st.to = ap (λ x. x.to) says.step_is in
+      let from_is : field h 23 4 ≡ st.from = ap (λ x. x.from) says.step_is in
+      let key_is = says.key_is in
       let count : length st.matches ≡ get_or s.lines (field h 13 4) 0 = rw (e, count_at s.lines s.last st.to to, ← to_is) at fit.matched in
       let fits : All (MatchFits (get_or s.lines (field h 23 4) 0)) st.matches = rw (e, count_at s.lines s.last st.from from, ← from_is) at fit.matches_fit in
       let rest = tail_waits (get_or s.lines (field h 13 4) 0) (get_or s.lines (field h 23 4) 0) (field h 17 11 + 1) st.matches ss (record { matched = count; matches_fit = fits; steps_rise = rw (key_is, add-one) t.steps_rise.1 }) in
@@ -185,7 +186,7 @@ module _ (counts : List ℕ) (s : BarrierForm) (sound : Sound s) where
         word = h;
         next = after_step s h;
         after = saying [] [] [] [] st.matches ss;
-        took = a_step (none_between s.phase sound.begun (sym t.matched)) w.0 refl;
+        took = a_step (none_between s.phase sound.begun (sym t.matched)) (step_good s.last s.valves (least_step s.phase) st last from fit.valve_there fit.valve_small to t.steps_rise.0) refl;
         front = record {
           lefts_fit = no_weights s.tanks _;
           rights_fit = no_weights s.tanks _;
@@ -194,7 +195,7 @@ module _ (counts : List ℕ) (s : BarrierForm) (sound : Sound s) where
           tail = rest;
           steps_fit = f.steps_fit.1;
         };
-        same = rw (w.0.kind_is, w.1);
+        same = rw (says.kind_is, says.step_is);
       }
 
   parts : (lefts rights : List Weight) (lines : CaseText) (cases : List CaseText) (ms : List Match) (ss : List Step) → let d = saying lefts rights lines cases ms ss in Front counts s.phase s d → Peeled counts s d ⊎ ((d ≡ nothing_said) × Between s.phase)

@@ -2,9 +2,10 @@
 -- fitting thing is good and says the thing.
 use Rattle.std.proofs.Common.{◌≡◌, ℕ, ◌+◌, ◌*◌, ◌/◌, ◌^◌, ◌<◌, ◌≤◌, Bool, true, false, cond, eqb, List, sym, refl, ap, ◌∙◌, arith}
 use Rattle.std.proofs.lemmas.Bool.Decides.{nat_tests}
+use Rattle.plant.specs.Limits.{most_valves}
 use Rattle.words.specs.Words.{kind, field}
 use Rattle.barriers.specs.Steps.{Way, forward, backward, Match, Step}
-use Rattle.barrier_paper.specs.Limits.{most_line_weight}
+use Rattle.barrier_paper.specs.Limits.{most_cases, most_lines, most_line_weight}
 use Rattle.barrier_paper.specs.Document.{Weight, WeightFits, MatchFits, way_bit, step_key, weight_word, match_word, weight_said, match_said, step_said}
 
 pub record CaseWord (w : ℕ) : Type 0 where
@@ -77,9 +78,12 @@ weight_apart k w h p =
     let high : w / 2 ^ 28 ≡ w / 2 ^ 22 / 2 ^ 6 = omega arith in
     omega arith
 
+weight_parts : (tanks k : ℕ) (x : Weight) → WeightFits tanks x → WeightParts k x.tank (cond x.negative 1 0) x.size (weight_word k x)
+weight_parts tanks k x f = weight_put k x.tank (cond x.negative 1 0) x.size f.tank_small (bit_low x.negative) f.few
+
 pub weight_good : (k tanks least : ℕ) (x : Weight) → WeightFits tanks x → least ≤ x.tank → WeightWord k tanks least (weight_word k x)
 weight_good k tanks least x f h =
-    let p = weight_put k x.tank (cond x.negative 1 0) x.size f.tank_small (bit_low x.negative) f.few in
+    let p = weight_parts tanks k x f in
     record {
       kind_is = p.kind_is;
       plain = p.plain;
@@ -89,9 +93,12 @@ weight_good k tanks least x f h =
       rises = rw p.tank_is h;
     }
 
-pub weight_says : (k tanks : ℕ) (x : Weight) → WeightFits tanks x → weight_said (weight_word k x) ≡ x
-weight_says k tanks x f =
-    let p = weight_put k x.tank (cond x.negative 1 0) x.size f.tank_small (bit_low x.negative) f.few in
+pub weight_kind : (tanks k : ℕ) (x : Weight) → WeightFits tanks x → kind (weight_word k x) ≡ k
+weight_kind tanks k x f = (weight_parts tanks k x f).kind_is
+
+pub weight_says : (tanks k : ℕ) (x : Weight) → WeightFits tanks x → weight_said (weight_word k x) ≡ x
+weight_says tanks k x f =
+    let p = weight_parts tanks k x f in
     let t = p.tank_is in
     let n : eqb (field (weight_word k x) 14 1) 1 ≡ x.negative = ap (λ b. eqb b 1) p.flag_is ∙ bit_says x.negative in
     let z = p.size_is in
@@ -127,16 +134,16 @@ case_written w h = let k = h.kind_is in let p = h.plain in omega arith
 
 -- ---- matches
 
-pub match_good : (lines : ℕ) (m : Match) → lines ≤ 16 → MatchFits lines m → MatchWord lines (match_word m) × (match_said (match_word m) ≡ m)
+pub match_good : (lines : ℕ) (m : Match) → lines ≤ most_lines → MatchFits lines m → MatchWord lines (match_word m) × (match_said (match_word m) ≡ m)
 match_good lines m few f =
     let there = f.line_there in
     let p = f.small_p in
     let q = f.small_q in
-    let line_is : field (match_word m) 24 4 ≡ m.line = omega arith in
-    let p_is : field (match_word m) 12 12 ≡ m.p = omega arith in
-    let q_is : field (match_word m) 0 12 ≡ m.q = omega arith in
+    let line-is : field (match_word m) 24 4 ≡ m.line = omega arith in
+    let p-is : field (match_word m) 12 12 ≡ m.p = omega arith in
+    let q-is : field (match_word m) 0 12 ≡ m.q = omega arith in
     let same : match_said (match_word m) ≡ record { line = m.line; p = m.p; q = m.q } = cc in
-    (record { kind_is = omega arith; line_there = rw line_is there }, same)
+    (record { kind_is = omega arith; line_there = rw line-is there }, same)
 
 pub match_written : (lines w : ℕ) → MatchWord lines w → w ≡ match_word (match_said w)
 match_written lines w h =
@@ -162,7 +169,7 @@ record StepParts (b f v t w : ℕ) : Type 0 where
   to_is : field w 13 4 ≡ t
   key_is : field w 17 11 ≡ (b * 16 + f) * 64 + v
 
-step_put : (b f v t : ℕ) → b < 2 → f < 16 → v < 64 → t < 16 → StepParts b f v t (10 * 2 ^ 28 + b * 2 ^ 27 + f * 2 ^ 23 + v * 2 ^ 17 + t * 2 ^ 13)
+step_put : (b f v t : ℕ) → b < 2 → f < most_cases → v < most_valves → t < most_cases → StepParts b f v t (10 * 2 ^ 28 + b * 2 ^ 27 + f * 2 ^ 23 + v * 2 ^ 17 + t * 2 ^ 13)
 step_put b f v t hb hf hv ht = record {
   kind_is = omega arith;
   plain = omega arith;
@@ -187,25 +194,37 @@ key_apart w =
     let c : w / 2 ^ 27 ≡ w / 2 ^ 23 / 2 ^ 4 = omega arith in
     omega arith
 
--- a step's word is good where its cases are at most `last`, which is below 16
-pub step_good : (last valves least : ℕ) (s : Step) → last < 16 → s.from ≤ last → s.valve < valves → s.valve < 64 → s.to ≤ last → least ≤ step_key s → StepWord last valves least (step_head s) × (step_said (step_head s) s.matches ≡ s)
-step_good last valves least s few from valve small to h =
-    let p = step_put (way_bit s.way) s.from s.valve s.to (way_low s.way) (omega arith) small (omega arith) in
+step_parts : (s : Step) → s.from < most_cases → s.valve < most_valves → s.to < most_cases → StepParts (way_bit s.way) s.from s.valve s.to (step_head s)
+step_parts s from valve to = step_put (way_bit s.way) s.from s.valve s.to (way_low s.way) from valve to
+
+-- a step's word says the step, all but its matches, and the number by which steps rise
+pub record StepSays (s : Step) : Type 0 where
+  pub kind_is : kind (step_head s) ≡ 10
+  pub step_is : step_said (step_head s) s.matches ≡ s
+  pub key_is : field (step_head s) 17 11 ≡ step_key s
+
+pub step_word_says : (s : Step) → s.from < most_cases → s.valve < most_valves → s.to < most_cases → StepSays s
+step_word_says s from valve to =
+    let p = step_parts s from valve to in
     let y : cond (eqb (field (step_head s) 27 1) 1) backward forward ≡ s.way = ap (λ b. cond (eqb b 1) backward forward) p.way_is ∙ way_says s.way in
     let f = p.from_is in
     let v = p.valve_is in
     let t = p.to_is in
-    let same : step_said (step_head s) s.matches ≡ record { way = s.way; from = s.from; valve = s.valve; to = s.to; matches = s.matches } = cc in (
-      record {
-        kind_is = p.kind_is;
-        plain = p.plain;
-        from_there = rw f from;
-        valve_there = rw v valve;
-        to_there = rw t to;
-        rises = rw p.key_is h;
-      },
-      same,
-    )
+    let same : step_said (step_head s) s.matches ≡ record { way = s.way; from = s.from; valve = s.valve; to = s.to; matches = s.matches } = cc in
+    record { kind_is = p.kind_is; step_is = same; key_is = p.key_is }
+
+-- it is good where its cases are at most `last`
+pub step_good : (last valves least : ℕ) (s : Step) → last < most_cases → s.from ≤ last → s.valve < valves → s.valve < most_valves → s.to ≤ last → least ≤ step_key s → StepWord last valves least (step_head s)
+step_good last valves least s few from valve small to h =
+    let p = step_parts s (omega arith) small (omega arith) in
+    record {
+      kind_is = p.kind_is;
+      plain = p.plain;
+      from_there = rw p.from_is from;
+      valve_there = rw p.valve_is valve;
+      to_there = rw p.to_is to;
+      rises = rw p.key_is h;
+    }
 
 pub step_written : (last valves least w : ℕ) (ms : List Match) → StepWord last valves least w → w ≡ step_head (step_said w ms)
 step_written last valves least w ms h = rw (way_back (field w 27 1) (omega arith)) (step_apart w h.kind_is h.plain)

@@ -44,16 +44,16 @@ fn count_before(bytes: &[u8], kind: u32) -> usize
     ensures { result ≡ length (spec.before kind (words bytes.now)) }
 {
     let mut rest = bytes;
-    let mut count = 0;
+    let mut passed = 0;
     while let Some((w, after)) = first_word(rest) {
         let found = kind_of(w);
         if found == kind || found == 10 {
-            return count;
+            return passed;
         }
-        count += 1;
+        passed += 1;
         rest = after;
     }
-    count
+    passed
 }
 
 // The first word, and what follows it up to the next word of the kind or a step.

@@ -2,8 +2,11 @@
 ghost use Rattle.std.specs.Prelude.{◌≡◌, ◌≤◌, length};
 ghost use Rattle.barrier_paper.specs.Limits.{most_cases, most_lines};
 
-use barrier_paper::limits::{MOST_CASES, MOST_LINES};
+use barrier_paper::limits::{self, MOST_CASES};
 use lines::line::LineWeights;
+
+// How many lines a table of one case has.
+pub const MOST_LINES: usize = limits::MOST_LINES as usize;
 
 // The lines of one case, the first so many of the table.
 #[derive(Clone, Copy)]

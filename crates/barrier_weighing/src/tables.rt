@@ -8,9 +8,9 @@ ghost use Rattle.barrier_paper.specs.Document.{BarrierDocument, barrier_of};
 ghost use Rattle.barrier_paper.specs.Windows.{count_kind, line_part, line_said};
 ghost use Rattle.barrier_weighing.specs.OfCases.{PaperOf, TablesOf};
 
-use crate::cases::{CaseLines, Cases};
+use crate::cases::{CaseLines, Cases, MOST_LINES};
 use barrier_paper::BarrierPaper;
-use barrier_paper::limits::{MOST_CASES, MOST_LINES};
+use barrier_paper::limits::MOST_CASES;
 use barrier_paper::weights::line_weights;
 use barrier_paper::windows::{count_kind, line};
 

@@ -2,6 +2,12 @@
 #![tactic(auto)]
 
 #[cfg(test)]
+mod barriers;
+#[cfg(test)]
+mod barrings;
+#[cfg(test)]
+mod matchings;
+#[cfg(test)]
 mod papers;
 #[cfg(test)]
 mod plants;

@@ -9,13 +9,29 @@ pub struct Trial {
     pub place: usize,
 }
 
+// Three tanks and two valves: valve 0 takes 1 from tank 0 and gives 1 to tank 1, valve 1 takes 1 from each of tanks 1 and 2 and gives 2 to tank 2.
+pub static MIXER: [u32; 6] = [
+    0x1000_0182,
+    0x2000_0001,
+    0x2041_0001,
+    0x2042_0001,
+    0x3001_0001,
+    0x3042_0002,
+];
+
+// One word more.
+pub fn put(bytes: &mut Vec<u8>, word: u32) -> Result<(), AllocError> {
+    for byte in word.to_be_bytes() {
+        bytes.push(byte)?;
+    }
+    Ok(())
+}
+
 // The words as bytes.
 pub fn written(heap: Global, words: &[u32]) -> Result<Vec<u8>, AllocError> {
     let mut bytes = Vec::new(heap);
     for word in words {
-        for byte in word.to_be_bytes() {
-            bytes.push(byte)?;
-        }
+        put(&mut bytes, *word)?;
     }
     Ok(bytes)
 }
@@ -31,9 +47,7 @@ pub fn written_out(
     let mut bytes = written(heap, &[head])?;
     let mut word = first;
     for _ in 0..count {
-        for byte in word.to_be_bytes() {
-            bytes.push(byte)?;
-        }
+        put(&mut bytes, word)?;
         word = word.wrapping_add(step);
     }
     Ok(bytes)

@@ -1,5 +1,5 @@
 // What weighings answer: the number and the place of the first fault, or that the fillings are joined.
-use crate::sheets::{Trial, written};
+use crate::sheets::{MIXER, Trial, written};
 use paper::PaperPlant;
 use plant::limits::MOST_VALVES;
 use plant::{Narrowed, Plant, RingMain, Turned};
@@ -20,16 +20,6 @@ struct Asked {
 
 // A totals paper of divisor 1 without totals.
 static NO_TOTALS: [u8; 4] = [0x40, 0, 0, 1];
-
-// Three tanks and two valves: valve 0 takes 1 from tank 0 and gives 1 to tank 1, valve 1 takes 1 from each of tanks 1 and 2 and gives 2 to tank 2.
-static MIXER: [u32; 6] = [
-    0x1000_0182,
-    0x2000_0001,
-    0x2041_0001,
-    0x2042_0001,
-    0x3001_0001,
-    0x3042_0002,
-];
 
 // The number and the place of what a weighing meets.
 fn met<P: Plant>(plant: &P, source: &[u32], target: &[u32], evidence: &[u8]) -> (u32, usize) {

@@ -1,5 +1,5 @@
 -- Why a paper is refused: the number, the place and the part of the program that each fault names.
-use Rattle.std.specs.Prelude.{ℕ, ◌/◌, ◌%◌, Bool, cond, ◌&&◌, List, length, Ok, Err, Result, ◌==◌, nat_le, nat_lt}
+use Rattle.std.specs.Prelude.{ℕ, ◌/◌, ◌%◌, Bool, cond, ◌&&◌, List, length, Some, None, Ok, Err, Option, Result, ◌==◌, nat_le, nat_lt}
 use Rattle.words.specs.declared.faults.WordFault.{WordFault}
 use Rattle.words.specs.declared.faults.WordFault.TheVariants.{Ragged, Empty, Long}
 use Rattle.words.specs.declared.faults.PaperFault.{PaperFault}
@@ -47,3 +47,8 @@ onward (Err e) f = Err e
 abbrev pub raised : {A E F : Type 0} → (E → F) → Result A E → Result A F
 raised up (Ok a) = Ok a
 raised up (Err e) = Err (up e)
+
+-- the lowest place that a test finds is refused, or what comes after is the answer
+abbrev pub refusing : {A E : Type 0} → Option ℕ → (ℕ → E) → Result A E → Result A E
+refusing None fault after = after
+refusing (Some place) fault after = Err (fault place)

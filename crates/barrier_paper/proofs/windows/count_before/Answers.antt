@@ -4,8 +4,8 @@ use Rattle.barrier_paper.specs.Windows.{before}
 use Rattle.barrier_paper.proofs.Seeking.{before_ends, before_goes}
 use Rattle.barrier_paper.proofs.windows.count_before.Goals as goal
 
-pub overflow_add-count : goal.overflow_add-count
-overflow_add-count c = omega (arith, length_words c.args.bytes.now)
+pub overflow_add-passed : goal.overflow_add-passed
+overflow_add-passed c = omega (arith, length_words c.args.bytes.now)
 
 pub returns-then-found-kind : goal.returns-then-found-kind
 returns-then-found-kind c =

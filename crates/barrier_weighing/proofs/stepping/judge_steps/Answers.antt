@@ -25,7 +25,7 @@ loop-w-smaller g c = omega (arith, ap length c.in-Some.ensures, c.split_at.ensur
 
 pub loop-w-preserved : goal.loop-w-preserved
 loop-w-preserved g c = (
-  omega (arith, c.loop-w.invariant.0, ap length c.in-Some.ensures, c.split_at.ensures.front-len, c.split_at.ensures.back_len, length_words c.split_at.result.1.now, length_words c.in-Some.after.now),
+  omega (arith, c.loop-w.invariant.0, ap length c.in-Some.ensures, c.split_at.ensures.front_len, c.split_at.ensures.back_len, length_words c.split_at.result.1.now, length_words c.in-Some.after.now),
   λ tanks valves d ss of fits written.
       let N = g.P.Plant.meaning c.args.plant.now in
       let all = steps_judged N (barrier_of d) 0 c.args.start ss in

@@ -17,7 +17,7 @@ loop-l-preserved c =
     (length-set c.loop-l.lines c.loop-l.l _ ∙ long, set_more line_meant c.loop-l.lines c.loop-l.l c.line_weights.result (λ k. line_said (line_part k (words c.args.case.now))) inside c.loop-l.invariant.1 said)
 
 pub invariant_of-result : goal.invariant_of-result
-invariant_of-result c = (omega (arith, c.min-count.ensures), (c.loop-l.invariant.0, tt))
+invariant_of-result c = record { few = omega (arith, c.min-count.ensures); long = c.loop-l.invariant.0 }
 
 pub returns : goal.returns
 returns c = record { count = c.min-count.ensures ∙ ap (λ n. min n most_lines) c.count_kind.ensures; lines = λ l z h. c.loop-l.invariant.1 l z (omega (arith, h, c.loop-l-test.false)) }

@@ -15,7 +15,7 @@ loop-i-preserved c =
     (length-set c.loop-i.cases c.loop-i.i _ ∙ long, one_more c.loop-i.cases c.loop-i.i c.case_lines.result (words c.args.paper.now.bytes.now) inside c.loop-i.invariant.1 (subst (Reads c.case_lines.result) c.case.ensures here))
 
 pub invariant_of-result : goal.invariant_of-result
-invariant_of-result c = (omega (arith, c.min-count.ensures), (c.loop-i.invariant.0, tt))
+invariant_of-result c = record { few = omega (arith, c.min-count.ensures); long = c.loop-i.invariant.0 }
 
 pub returns : goal.returns
 returns c = λ tanks valves d of.

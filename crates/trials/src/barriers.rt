@@ -1,0 +1,644 @@
+// What is read of barrier papers: the number and the place of the first fault, and the parts of a paper that has none.
+use crate::sheets::{Trial, put, written};
+use barrier_paper::BarrierPaper;
+use barrier_paper::step_words::{MatchWord, StepWord};
+use barrier_paper::weights::line_weights;
+use barrier_paper::windows::{count_kind, line, part_of};
+use lines::Way;
+use std::alloc::{AllocError, Global};
+use std::process::Abort;
+use std::test::Fail;
+use words::{PaperFault, Part, Refusal};
+
+// The number and the place of what a barrier paper meets on a plant with so many tanks and valves.
+fn met(bytes: &[u8], tanks: usize, valves: usize) -> (u32, usize) {
+    match BarrierPaper::read(bytes, tanks, valves) {
+        Ok(_) => (0, 0),
+        Err(fault) => {
+            let refusal = fault.refusal();
+            (refusal.number, refusal.place)
+        }
+    }
+}
+
+// Tries each list of words after a head, on a plant with two tanks and two valves.
+fn tried(rt: &impl Abort, heap: Global, head: &[u32], trials: &[Trial]) -> Result<(), Fail> {
+    for trial in trials {
+        let mut bytes = written(heap, head)?;
+        for word in trial.words {
+            put(&mut bytes, *word)?;
+        }
+        assert_eq!(rt; met(&bytes, 2, 2), (trial.number, trial.place));
+    }
+    Ok(())
+}
+
+// A word, and so many times another.
+fn put_with(bytes: &mut Vec<u8>, head: u32, count: usize, word: u32) -> Result<(), AllocError> {
+    put(bytes, head)?;
+    for _ in 0..count {
+        put(bytes, word)?;
+    }
+    Ok(())
+}
+
+// So many cases with so many lines each, then so many steps by direction, case and valve into case 0, each with its matches,
+// which name the last line.
+fn stepped(heap: Global, cases: usize, lines: u32, steps: u32) -> Result<Vec<u8>, AllocError> {
+    let mut bytes = Vec::new(heap);
+    for _ in 0..cases {
+        put_with(&mut bytes, 0x6000_0000, lines as usize, 0x7000_0000)?;
+    }
+    for key in 0..steps {
+        put_with(
+            &mut bytes,
+            0xa000_0000 | key % 2048 << 17,
+            lines as usize,
+            0xb000_0000 | lines.saturating_sub(1) % 16 << 24,
+        )?;
+    }
+    Ok(bytes)
+}
+
+static CASES: [Trial; 11] = [
+    // a barrier of one case and nothing else, and one without steps
+    Trial {
+        words: &[0x6000_0000],
+        number: 0,
+        place: 0,
+    },
+    Trial {
+        words: &[0x6000_0000, 0x7000_0001, 0x6000_0000, 0x7000_0000],
+        number: 0,
+        place: 0,
+    },
+    // a case comes first
+    Trial {
+        words: &[0x7000_0000],
+        number: 4,
+        place: 0,
+    },
+    Trial {
+        words: &[0xa000_0000],
+        number: 4,
+        place: 0,
+    },
+    Trial {
+        words: &[0x4000_0001],
+        number: 4,
+        place: 0,
+    },
+    // a weight belongs to a line, and a match to a step
+    Trial {
+        words: &[0x6000_0000, 0x8000_0001],
+        number: 4,
+        place: 1,
+    },
+    Trial {
+        words: &[0x6000_0000, 0x9000_0001],
+        number: 4,
+        place: 1,
+    },
+    Trial {
+        words: &[0x6000_0000, 0x7000_0000, 0xb000_0000],
+        number: 4,
+        place: 2,
+    },
+    // kinds that no barrier paper has
+    Trial {
+        words: &[0x6000_0000, 0x5000_0001],
+        number: 4,
+        place: 1,
+    },
+    Trial {
+        words: &[0x6000_0000, 0x7000_0000, 0xc000_0000],
+        number: 4,
+        place: 2,
+    },
+    Trial {
+        words: &[0x6000_0000, 0x7000_0000, 0x0000_0000],
+        number: 4,
+        place: 2,
+    },
+];
+
+// The weights of a case's first line.
+static WEIGHTS: [Trial; 22] = [
+    // sizes 0, 1, 10,000 and 10,001, left and right, with either sign
+    Trial {
+        words: &[0x8000_0000],
+        number: 7,
+        place: 2,
+    },
+    Trial {
+        words: &[0x8000_0001],
+        number: 0,
+        place: 0,
+    },
+    Trial {
+        words: &[0x8000_2710],
+        number: 0,
+        place: 0,
+    },
+    Trial {
+        words: &[0x8000_2711],
+        number: 7,
+        place: 2,
+    },
+    Trial {
+        words: &[0x9000_4000],
+        number: 7,
+        place: 2,
+    },
+    Trial {
+        words: &[0x9000_4001],
+        number: 0,
+        place: 0,
+    },
+    Trial {
+        words: &[0x9000_6710],
+        number: 0,
+        place: 0,
+    },
+    Trial {
+        words: &[0x9000_6711],
+        number: 7,
+        place: 2,
+    },
+    // the last tank, and one past it
+    Trial {
+        words: &[0x8040_0001, 0x9040_0001],
+        number: 0,
+        place: 0,
+    },
+    Trial {
+        words: &[0x8080_0001],
+        number: 7,
+        place: 2,
+    },
+    Trial {
+        words: &[0x9080_0001],
+        number: 7,
+        place: 2,
+    },
+    // tanks that rise by one, that are equal, and that fall
+    Trial {
+        words: &[0x8000_0001, 0x8040_0001, 0x9000_0001, 0x9040_0001],
+        number: 0,
+        place: 0,
+    },
+    Trial {
+        words: &[0x8000_0001, 0x8000_0001],
+        number: 8,
+        place: 3,
+    },
+    Trial {
+        words: &[0x8040_0001, 0x8000_0001],
+        number: 8,
+        place: 3,
+    },
+    Trial {
+        words: &[0x9000_0001, 0x9000_4001],
+        number: 8,
+        place: 3,
+    },
+    Trial {
+        words: &[0x9040_0001, 0x9000_0001],
+        number: 8,
+        place: 3,
+    },
+    // right weights begin anew, and so does the next line
+    Trial {
+        words: &[0x8040_0001, 0x9000_0001],
+        number: 0,
+        place: 0,
+    },
+    Trial {
+        words: &[0x9040_0001, 0x7000_0000, 0x8000_0001],
+        number: 0,
+        place: 0,
+    },
+    // a left weight after a right one
+    Trial {
+        words: &[0x8000_0001, 0x9000_0001, 0x8040_0001],
+        number: 4,
+        place: 4,
+    },
+    // the first fault of a word
+    Trial {
+        words: &[0x8040_0001, 0x8000_0000],
+        number: 7,
+        place: 3,
+    },
+    Trial {
+        words: &[0x8040_0001, 0x8000_8000],
+        number: 6,
+        place: 3,
+    },
+    Trial {
+        words: &[0x9040_0001, 0x8000_8000],
+        number: 4,
+        place: 3,
+    },
+];
+
+// Steps after two cases, the first with one line and the second with none.
+static STEPS: [Trial; 19] = [
+    // within a case, and from one to the other: into the second no match is due
+    Trial {
+        words: &[0xa000_0000, 0xb000_0000, 0xa002_2000, 0xa082_2000],
+        number: 0,
+        place: 0,
+    },
+    // a case that is not there
+    Trial {
+        words: &[0xa100_2000],
+        number: 7,
+        place: 3,
+    },
+    Trial {
+        words: &[0xa000_4000],
+        number: 7,
+        place: 3,
+    },
+    // one past the last valve
+    Trial {
+        words: &[0xa004_2000],
+        number: 7,
+        place: 3,
+    },
+    // steps that rise by direction; that are equal; that fall by valve, by case and by direction
+    Trial {
+        words: &[0xa082_2000, 0xa800_2000],
+        number: 0,
+        place: 0,
+    },
+    Trial {
+        words: &[0xa000_2000, 0xa000_2000],
+        number: 8,
+        place: 4,
+    },
+    Trial {
+        words: &[0xa002_2000, 0xa000_2000],
+        number: 8,
+        place: 4,
+    },
+    Trial {
+        words: &[0xa080_2000, 0xa002_2000],
+        number: 8,
+        place: 4,
+    },
+    Trial {
+        words: &[0xa800_2000, 0xa082_2000],
+        number: 8,
+        place: 4,
+    },
+    // also over the matches between them
+    Trial {
+        words: &[0xa000_0000, 0xb000_0000, 0xa000_2000],
+        number: 8,
+        place: 5,
+    },
+    // cases, lines and weights come before the steps
+    Trial {
+        words: &[0xa000_2000, 0x6000_0000],
+        number: 4,
+        place: 4,
+    },
+    Trial {
+        words: &[0xa000_2000, 0x7000_0000],
+        number: 4,
+        place: 4,
+    },
+    Trial {
+        words: &[0xa000_2000, 0x8000_0001],
+        number: 4,
+        place: 4,
+    },
+    Trial {
+        words: &[0xa000_2000, 0x9000_0001],
+        number: 4,
+        place: 4,
+    },
+    // the first fault of a word
+    Trial {
+        words: &[0xa002_2000, 0xa000_4000],
+        number: 7,
+        place: 4,
+    },
+    Trial {
+        words: &[0xa002_2000, 0xa000_4001],
+        number: 6,
+        place: 4,
+    },
+    // and the first word that has one
+    Trial {
+        words: &[0xa004_2000, 0xc000_0000],
+        number: 7,
+        place: 3,
+    },
+    // a step comes right after a case, a line or a weight
+    Trial {
+        words: &[0x7000_0000, 0xa000_0000, 0xb000_0000],
+        number: 0,
+        place: 0,
+    },
+    Trial {
+        words: &[0x7000_0000, 0x9000_0001, 0xa000_0000, 0xb000_0000],
+        number: 0,
+        place: 0,
+    },
+];
+
+// Matches after the same two cases.
+static MATCHES: [Trial; 12] = [
+    // one match for the line of the first case, with the smallest and the largest factors
+    Trial {
+        words: &[0xa000_0000, 0xb000_0000],
+        number: 0,
+        place: 0,
+    },
+    Trial {
+        words: &[0xa000_0000, 0xb0ff_ffff],
+        number: 0,
+        place: 0,
+    },
+    // still due at the end
+    Trial {
+        words: &[0xa000_0000],
+        number: 5,
+        place: 4,
+    },
+    Trial {
+        words: &[0x7000_0000, 0x7000_0000, 0xa000_2000, 0xb000_0000],
+        number: 5,
+        place: 7,
+    },
+    // another kind while one is due
+    Trial {
+        words: &[0xa000_0000, 0xa002_2000],
+        number: 4,
+        place: 4,
+    },
+    Trial {
+        words: &[0xa000_0000, 0x6000_0000],
+        number: 4,
+        place: 4,
+    },
+    Trial {
+        words: &[0xa000_0000, 0xf000_0000],
+        number: 4,
+        place: 4,
+    },
+    // one too many, also where the case has no lines
+    Trial {
+        words: &[0xa000_0000, 0xb000_0000, 0xb000_0000],
+        number: 4,
+        place: 5,
+    },
+    Trial {
+        words: &[0xa000_2000, 0xb000_0000],
+        number: 4,
+        place: 4,
+    },
+    // no case follows a match
+    Trial {
+        words: &[0xa000_0000, 0xb000_0000, 0x6000_0000],
+        number: 4,
+        place: 5,
+    },
+    // a line that the case left does not have
+    Trial {
+        words: &[0xa000_0000, 0xb100_0000],
+        number: 7,
+        place: 4,
+    },
+    Trial {
+        words: &[0xa080_0000, 0xb000_0000],
+        number: 7,
+        place: 4,
+    },
+];
+
+#[test]
+fn cases_of_barriers(rt: HostRuntime) -> Result<(), Fail> {
+    tried(&rt, rt.alloc(), &[], &CASES)
+}
+
+#[test]
+fn weights_of_lines(rt: HostRuntime) -> Result<(), Fail> {
+    tried(&rt, rt.alloc(), &[0x6000_0000, 0x7000_0000], &WEIGHTS)
+}
+
+#[test]
+fn steps_of_barriers(rt: HostRuntime) -> Result<(), Fail> {
+    tried(
+        &rt,
+        rt.alloc(),
+        &[0x6000_0000, 0x7000_0000, 0x6000_0000],
+        &STEPS,
+    )
+}
+
+#[test]
+fn matches_of_steps(rt: HostRuntime) -> Result<(), Fail> {
+    tried(
+        &rt,
+        rt.alloc(),
+        &[0x6000_0000, 0x7000_0000, 0x6000_0000],
+        &MATCHES,
+    )
+}
+
+// The place of a word, and its unnamed bits: from the lowest to before the highest. A match has none.
+static BITS: [(usize, u32, u32); 5] = [
+    (0, 0, 28),
+    (1, 1, 28),
+    (2, 15, 22),
+    (3, 15, 22),
+    (4, 0, 13),
+];
+
+// Each unnamed bit alone is refused, in a case, a line, a left weight, a right weight and a step.
+#[test]
+fn unnamed_bits_of_barriers(rt: HostRuntime) -> Result<(), Fail> {
+    for (place, low, high) in BITS {
+        for bit in low..high {
+            let mut words = [
+                0x6000_0000,
+                0x7000_0000,
+                0x8000_0001,
+                0x9000_0001,
+                0xa000_0000,
+                0xb000_0000,
+            ];
+            assert!(rt; place < 5 && bit < 32);
+            words[place] |= 1 << bit;
+            let bytes = written(rt.alloc(), &words)?;
+            assert_eq!(rt; met(&bytes, 1, 1), (6, place));
+        }
+    }
+    Ok(())
+}
+
+// At most 16 cases, and at most 16 lines to each, the last of which can be named. The first of the lines too many is in the first case.
+#[test]
+fn many_cases_and_lines(rt: HostRuntime) -> Result<(), Fail> {
+    for (cases, lines, steps, number, place) in [
+        (16, 0, 0, 0, 0),
+        (17, 0, 0, 9, 16),
+        (1, 16, 0, 0, 0),
+        (1, 17, 0, 9, 17),
+        (16, 16, 1, 0, 0),
+        (17, 16, 1, 9, 272),
+        (16, 17, 1, 9, 17),
+    ] {
+        let bytes = stepped(rt.alloc(), cases, lines, steps)?;
+        assert_eq!(rt; met(&bytes, 1, 1), (number, place));
+    }
+    // an unnamed bit of the 17th case comes before that there are too many
+    let mut bytes = stepped(rt.alloc(), 16, 0, 0)?;
+    put(&mut bytes, 0x6000_0001)?;
+    assert_eq!(rt; met(&bytes, 1, 1), (6, 16));
+    Ok(())
+}
+
+// Every step that there can be, by direction, case and valve: two times 16 times 64. After the last none rises.
+#[test]
+fn all_steps(rt: HostRuntime) -> Result<(), Fail> {
+    for (steps, number, place) in [(2048, 0, 0), (2049, 8, 2064)] {
+        let bytes = stepped(rt.alloc(), 16, 0, steps)?;
+        assert_eq!(rt; met(&bytes, 1, 64), (number, place));
+    }
+    Ok(())
+}
+
+// A paper of 8,192 words, of 8,193 and of one step more: 16 cases of 3 lines, and 4 words to a step.
+#[test]
+fn long_barriers(rt: HostRuntime) -> Result<(), Fail> {
+    let mut bytes = stepped(rt.alloc(), 16, 3, 2032)?;
+    assert_eq!(rt; met(&bytes, 1, 64), (0, 0));
+    put(&mut bytes, 0xafe0_0000)?;
+    assert_eq!(rt; met(&bytes, 1, 64), (3, 8193));
+    put_with(&mut bytes, 0xb000_0000, 2, 0xb000_0000)?;
+    assert_eq!(rt; met(&bytes, 1, 64), (3, 8196));
+    Ok(())
+}
+
+// No bytes are no paper, and a paper of broken words is refused at the number of its whole words.
+#[test]
+fn broken_barriers(rt: HostRuntime) {
+    let paper = [0x60, 0, 0, 0, 0x70, 0, 0, 1, 0];
+    for (length, number, place) in [
+        (0, 2, 0),
+        (3, 1, 0),
+        (4, 0, 0),
+        (5, 1, 1),
+        (8, 0, 0),
+        (9, 1, 2),
+    ] {
+        assert!(rt; length <= 9);
+        assert_eq!(rt; met(&paper[0..length], 1, 1), (number, place));
+    }
+}
+
+// Two cases, the first of two lines, and two steps.
+static PARTS: [u32; 10] = [
+    0x6000_0000,
+    0x7000_0001,
+    0x8000_0003,
+    0x7000_0000,
+    0x9040_4002,
+    0x6000_0000,
+    0xa000_2000,
+    0xa800_0000,
+    0xb100_1002,
+    0xb000_0000,
+];
+
+// The cases and the steps of a paper are parts of its bytes. Of a third case there is nothing.
+#[test]
+fn cases_of_a_barrier(rt: HostRuntime) -> Result<(), Fail> {
+    let bytes = written(rt.alloc(), &PARTS)?;
+    let paper = BarrierPaper::read(&bytes, 2, 2)?;
+    assert!(rt; bytes.len() == 40);
+    assert_eq!(rt; (paper.cases(), paper.steps_at()), (2, 6));
+    assert_eq!(rt; paper.case(0), &bytes[0..20]);
+    assert_eq!(rt; paper.case(1), &bytes[20..24]);
+    assert_eq!(rt; paper.case(2).len(), 0);
+    assert_eq!(rt; paper.steps(), &bytes[24..40]);
+    Ok(())
+}
+
+// So are the lines of a case, of which there is no third, and the first step, which has no matches.
+#[test]
+fn lines_of_a_case(rt: HostRuntime) -> Result<(), Fail> {
+    let bytes = written(rt.alloc(), &PARTS)?;
+    assert!(rt; bytes.len() == 40);
+    assert_eq!(rt; count_kind(&bytes[0..20], 7), 2);
+    assert_eq!(rt; line(&bytes[0..20], 0), &bytes[4..12]);
+    assert_eq!(rt; line(&bytes[0..20], 1), &bytes[12..20]);
+    assert_eq!(rt; line(&bytes[0..20], 2).len(), 0);
+    assert_eq!(rt; part_of(&bytes[24..40], 10), &bytes[24..28]);
+    Ok(())
+}
+
+// The weights of a line: a tank without a weight has 0.
+#[test]
+fn weights_of_a_line(rt: HostRuntime) -> Result<(), Fail> {
+    let bytes = written(
+        rt.alloc(),
+        &[
+            0x7000_0001,
+            0x8000_2710,
+            0x8040_4001,
+            0x9040_0005,
+            0x9fc0_6710,
+        ],
+    )?;
+    let weights = line_weights(&bytes);
+    for (tank, left, right) in [(0, 10_000, 0), (1, -1, 5), (2, 0, 0), (63, 0, -10_000)] {
+        assert!(rt; tank < 64);
+        assert_eq!(rt; (weights.left[tank], weights.right[tank]), (left, right));
+    }
+    assert!(rt; weights.strict);
+    Ok(())
+}
+
+// What the words of a step and of a match say.
+#[test]
+fn what_steps_say(rt: HostRuntime) {
+    let step = StepWord {
+        way: Way::Backward,
+        from: 15,
+        valve: 63,
+        to: 14,
+    };
+    assert_eq!(rt; StepWord::of_word(0xafff_c000), step);
+    let first = StepWord {
+        way: Way::Forward,
+        from: 0,
+        valve: 1,
+        to: 0,
+    };
+    assert_eq!(rt; StepWord::of_word(0xa002_0000), first);
+    let found = MatchWord {
+        line: 15,
+        p: 4095,
+        q: 1,
+    };
+    assert_eq!(rt; MatchWord::of_word(0xbfff_f001), found);
+}
+
+// Matches that are still due, and one case or line too many, are faults of the paper.
+#[test]
+fn refusals_of_barriers(rt: HostRuntime) {
+    for (fault, number, place) in [(PaperFault::Due(9), 5, 9), (PaperFault::Count(16), 9, 16)] {
+        let refusal = Refusal {
+            number,
+            place,
+            part: Part::Paper,
+        };
+        assert_eq!(rt; fault.refusal(), refusal);
+    }
+}
