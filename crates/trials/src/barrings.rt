@@ -8,6 +8,7 @@ use plant::limits::MOST_VALVES;
 use plant::{Narrowed, Plant, RingMain, Turned};
 use std::alloc::{AllocError, Global};
 use std::test::Fail;
+use weighing::weigh::weigh;
 use words::{Part, Refusal};
 
 // The number and the place of what a weighing meets: 0 and 0 where the paper parts the fillings.
@@ -590,9 +591,8 @@ struct Asked {
     place: usize,
 }
 
-// On the mixer.
-static ASKED: [Asked; 14] = [
-    // the question before the paper: a case with an unnamed bit, and a barrier that holds across
+// The question comes before the paper: a case with an unnamed bit, and a barrier that holds across.
+static QUESTIONS: [Asked; 6] = [
     Asked {
         source: &[2, 0],
         target: &[0, 0, 2],
@@ -635,6 +635,10 @@ static ASKED: [Asked; 14] = [
         number: 11,
         place: 64,
     },
+];
+
+// On the mixer.
+static ASKED: [Asked; 8] = [
     Asked {
         source: &[2, 0, 0],
         target: &[0, 0, 2],
@@ -711,6 +715,28 @@ static ASKED: [Asked; 14] = [
         place: 16,
     },
 ];
+
+#[test]
+fn question_before_the_paper(rt: HostRuntime) -> Result<(), Fail> {
+    let plant = written(rt.alloc(), &MIXER)?;
+    for asked in QUESTIONS {
+        let evidence = written(rt.alloc(), asked.words)?;
+        let found = match weigh(
+            &PaperPlant::new(&plant),
+            asked.source,
+            asked.target,
+            &evidence,
+        ) {
+            Ok(_) => (0, 0),
+            Err(fault) => {
+                let refusal = fault.refusal();
+                (refusal.number, refusal.place)
+            }
+        };
+        assert_eq!(rt; found, (asked.number, asked.place));
+    }
+    Ok(())
+}
 
 #[test]
 fn order_of_checks(rt: HostRuntime) -> Result<(), Fail> {
