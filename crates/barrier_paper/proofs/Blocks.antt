@@ -1,6 +1,6 @@
 -- Words in blocks: each begins with a word of one kind, which stands nowhere else in it.
 use Rattle.std.proofs.Common.{◌≡◌, ℕ, zero, suc, ◌<◌, ◌≤◌, eqb, ◌⊎◌, List, [], ◌∷◌, ◌++◌, length, get_or, sym, refl, ap, ◌∙◌, subst, inl, inr, append_assoc, arith}
-use Rattle.std.specs.List.{AllByRecursion as All}
+use Rattle.std.specs.List.{AllByRecursion}
 use Rattle.std.proofs.lemmas.List.{append-nil}
 use Rattle.std.proofs.lemmas.Bool.{cond-true, cond-false, or_left, or_right, eq-eqb, ne_eqb}
 use Rattle.words.specs.Words.{kind}
@@ -74,12 +74,12 @@ module _ {X : Type 0} {k high : ℕ} {f : X → List ℕ} {Fits : X → Type 0} 
       ∙ (ap (λ ws. B.head x ∷ ws) (go_on k (suc k) high (B.tail x) ys (B.tail_kinds x h) above B.no_step ∙ (ap (λ ws. B.tail x ++ ws) (stop k ys s) ∙ append-nil (B.tail x)))
       ∙ sym (B.made x))
 
-  stops : (xs : List X) (zs : List ℕ) → All Fits xs → Stops k zs → Stops k (joined f xs ++ zs)
+  stops : (xs : List X) (zs : List ℕ) → AllByRecursion Fits xs → Stops k zs → Stops k (joined f xs ++ zs)
   stops [] zs h s = s
   stops (x ∷ xs) zs h s = subst (λ ws. Stops k ((ws ++ joined f xs) ++ zs)) (sym (B.made x)) (inl (B.head_kind x h.0))
 
   -- block i of several, found by its kind
-  pub nth_block : (xs : List X) (zs : List ℕ) (i : ℕ) (d : X) → All Fits xs → Stops k zs → i < length xs → part k (from_nth k i (joined f xs ++ zs)) ≡ f (get_or xs i d)
+  pub nth_block : (xs : List X) (zs : List ℕ) (i : ℕ) (d : X) → AllByRecursion Fits xs → Stops k zs → i < length xs → part k (from_nth k i (joined f xs ++ zs)) ≡ f (get_or xs i d)
   nth_block [] zs i d h s l = absurd (omega arith)
   nth_block (x ∷ xs) zs zero d h s l =
       ap (λ ws. part k (from_nth k 0 ws)) (append_assoc (f x) (joined f xs) zs)
@@ -91,7 +91,7 @@ module _ {X : Type 0} {k high : ℕ} {f : X → List ℕ} {Fits : X → Type 0} 
       ∙ nth_block xs zs i d h.1 s (omega arith))
 
   -- beyond the last there is none
-  pub past_blocks : (xs : List X) (low top : ℕ) (zs : List ℕ) (i : ℕ) → All Fits xs → Kinds low top zs → Apart low top k → length xs ≤ i → from_nth k i (joined f xs ++ zs) ≡ []
+  pub past_blocks : (xs : List X) (low top : ℕ) (zs : List ℕ) (i : ℕ) → AllByRecursion Fits xs → Kinds low top zs → Apart low top k → length xs ≤ i → from_nth k i (joined f xs ++ zs) ≡ []
   past_blocks [] low top zs i h lack other l = ap (from_nth k i) (sym (append-nil zs)) ∙ skip k i low top zs [] lack other
   past_blocks (x ∷ xs) low top zs zero h lack other l = absurd (omega arith)
   past_blocks (x ∷ xs) low top zs (suc i) h lack other l =
@@ -100,7 +100,7 @@ module _ {X : Type 0} {k high : ℕ} {f : X → List ℕ} {Fits : X → Type 0} 
       ∙ past_blocks xs low top zs i h.1 lack other (omega arith))
 
   -- there are as many words of the kind as there are blocks
-  pub count_blocks : (xs : List X) → All Fits xs → count_kind k (joined f xs) ≡ length xs
+  pub count_blocks : (xs : List X) → AllByRecursion Fits xs → count_kind k (joined f xs) ≡ length xs
   count_blocks [] h = refl
   count_blocks (x ∷ xs) h =
       ap (λ ws. count_kind k (ws ++ joined f xs)) (B.made x)

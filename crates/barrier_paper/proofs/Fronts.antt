@@ -1,6 +1,6 @@
 -- What is still to be said from a state on: the front of a barrier paper's words.
 use Rattle.std.proofs.Common.{◌≡◌, ℕ, suc, ◌+◌, ◌-◌, ◌<◌, ◌≤◌, ◌⊎◌, List, [], ◌∷◌, ◌++◌, map, length, get_or, take, set, Some, None, Option, sym, refl, ap, ◌∙◌, inl, inr, ⊎_elim, add-zero, add-one, arith}
-use Rattle.std.specs.List.{AllByRecursion as All}
+use Rattle.std.specs.List.{AllByRecursion}
 use Rattle.std.proofs.lemmas.List.{append_assoc, take_more, take-set, get_or-set_same, get_or-take, length-take-le}
 use Rattle.words.specs.Words.{field}
 use Rattle.barriers.specs.Steps.{Match, Step}
@@ -17,20 +17,20 @@ use Rattle.barrier_paper.proofs.States.{Sound, room, waits}
 -- weights, where they may come, of tanks that rise from what is given; else none
 abbrev pub Weights : ℕ → Option ℕ → List Weight → Type 0
 Weights tanks None xs = xs ≡ []
-Weights tanks (Some least) xs = All (WeightFits tanks) xs × RisingWeights least xs
+Weights tanks (Some least) xs = AllByRecursion (WeightFits tanks) xs × RisingWeights least xs
 
 -- the lines of the last case and the cases after it, where the cases have `counts` lines
 pub record Body (counts : List ℕ) (tanks last : ℕ) (table : List ℕ) (lines : CaseText) (cases : List CaseText) : Type 0 where
   pub few_lines : get_or table last 0 + length lines ≤ most_lines
-  pub lines_fit : All (LineFits tanks) lines
+  pub lines_fit : AllByRecursion (LineFits tanks) lines
   pub few_cases : last + length cases < most_cases
-  pub cases_fit : All (CaseFits tanks) cases
+  pub cases_fit : AllByRecursion (CaseFits tanks) cases
   pub counted : counts ≡ take last table ++ ((get_or table last 0 + length lines) ∷ map length cases)
 
 -- the matches that are due, and the steps after them
 pub record Tail (count lines least : ℕ) (ms : List Match) (ss : List Step) : Type 0 where
   pub matched : length ms ≡ count
-  pub matches_fit : All (MatchFits lines) ms
+  pub matches_fit : AllByRecursion (MatchFits lines) ms
   pub steps_rise : RisingSteps least ss
 
 -- a step between cases that have `counts` lines
@@ -40,7 +40,7 @@ pub record StepCounted (valves : ℕ) (counts : List ℕ) (s : Step) : Type 0 wh
   pub valve_small : s.valve < 64
   pub to_there : s.to < length counts
   pub matched : length s.matches ≡ get_or counts s.to 0
-  pub matches_fit : All (MatchFits (get_or counts s.from 0)) s.matches
+  pub matches_fit : AllByRecursion (MatchFits (get_or counts s.from 0)) s.matches
 
 -- a well-formed front, from a state on
 pub record Front (counts : List ℕ) (ph : Phase) (s : BarrierForm) (d : Said) : Type 0 where
@@ -49,7 +49,7 @@ pub record Front (counts : List ℕ) (ph : Phase) (s : BarrierForm) (d : Said) :
   pub in_case : InCase ph ⊎ ((d.lines ≡ []) × (d.cases ≡ []))
   pub body : Body counts s.tanks s.last s.lines d.lines d.cases
   pub tail : Tail (due ph) (named ph) (least_step ph) d.matches d.steps
-  pub steps_fit : All (StepCounted s.valves counts) d.steps
+  pub steps_fit : AllByRecursion (StepCounted s.valves counts) d.steps
 
 -- ---- the parts of a front, one word on and back
 
@@ -67,7 +67,7 @@ quiet (Steps least) ms ss i = elim i [ ]
 quiet (Matches count lines least) ms ss i = elim i [ ]
 
 -- so many matches are due
-none_fit : (a b : ℕ) (ms : List Match) → length ms ≡ 0 → All (MatchFits a) ms → All (MatchFits b) ms
+none_fit : (a b : ℕ) (ms : List Match) → length ms ≡ 0 → AllByRecursion (MatchFits a) ms → AllByRecursion (MatchFits b) ms
 none_fit a b [] n h = tt
 none_fit a b (m ∷ ms) n h = absurd (omega arith)
 

@@ -1,6 +1,6 @@
 -- The parts of a paper that is the writing of a document are the cases, the lines and the steps of that document.
 use Rattle.std.proofs.Common.{◌≡◌, ℕ, zero, suc, ◌*◌, ◌^◌, ◌<◌, ◌≤◌, false, cond, eqb, List, [], ◌∷◌, ◌++◌, map, length, get_or, ℤ, pos, ◌+ℤ◌, sym, refl, ap, ◌∙◌, inl, inr, ⊎_elim, arith}
-use Rattle.std.specs.List.{AllByRecursion as All}
+use Rattle.std.specs.List.{AllByRecursion}
 use Rattle.std.proofs.lemmas.List.{append-nil, get_or-map, get_or_past, length-map}
 use Rattle.std.proofs.ByRecursion.{All-get_or}
 use Rattle.std.proofs.lemmas.Bool.{cond-true, cond-false, cond_both, eq-eqb, ne_eqb, cases_lt}
@@ -37,7 +37,7 @@ other_weight k w r ne = cond-false (eqb (kind w) k) _ _ (ne_eqb (kind w) k ne)
 
 module _ (tanks : ℕ) where
   -- weights written as words of a kind are the weights of that kind
-  own_weights : (k : ℕ) (ws : List Weight) (r : ℕ) → All (WeightFits tanks) ws → part_weight k (map (weight_word k) ws) r ≡ weight_of ws r
+  own_weights : (k : ℕ) (ws : List Weight) (r : ℕ) → AllByRecursion (WeightFits tanks) ws → part_weight k (map (weight_word k) ws) r ≡ weight_of ws r
   own_weights k [] r h = refl
   own_weights k (w ∷ ws) r h =
       let is = cond-true (eqb (kind (weight_word k w)) k) (cond (eqb (weight_said (weight_word k w)).tank r) (signed (weight_said (weight_word k w))) (pos 0)) (pos 0) (eq-eqb _ k (weight_kind tanks k w h.0)) in
@@ -46,7 +46,7 @@ module _ (tanks : ℕ) where
       ap (λ z. z +ℤ part_weight k (map (weight_word k) ws) r) (is ∙ says) ∙ ap (λ z. cond (eqb w.tank r) (signed w) (pos 0) +ℤ z) more
 
   -- and no weights of another
-  other_weights : (k j : ℕ) (ws : List Weight) (r : ℕ) → (k ≡ j → ⊥) → All (WeightFits tanks) ws → part_weight j (map (weight_word k) ws) r ≡ pos 0
+  other_weights : (k j : ℕ) (ws : List Weight) (r : ℕ) → (k ≡ j → ⊥) → AllByRecursion (WeightFits tanks) ws → part_weight j (map (weight_word k) ws) r ≡ pos 0
   other_weights k j [] r ne h = refl
   other_weights k j (w ∷ ws) r ne h =
       none (word_weight j (weight_word k w) r) (part_weight j (map (weight_word k) ws) r) (other_weight j (weight_word k w) r (λ e. ne (sym (weight_kind tanks k w h.0) ∙ e))) (other_weights k j ws r ne h.1)
@@ -182,7 +182,7 @@ line_part_le i l ws =
 steps_stop : (tanks valves : ℕ) (d : BarrierDocument) → BarrierFormed tanks valves d → (k : ℕ) → Stops k (joined step_words d.steps)
 steps_stop tanks valves d f k = at d.steps f.steps_fit
   where
-    at : (ss : List Step) → All (StepFits valves d.cases) ss → Stops k (joined step_words ss)
+    at : (ss : List Step) → AllByRecursion (StepFits valves d.cases) ss → Stops k (joined step_words ss)
     at [] h = tt
     at (s ∷ ss) h = inr (step_says valves d.cases f.few_cases s h.0).kind_is
 

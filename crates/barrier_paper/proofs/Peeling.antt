@@ -1,6 +1,6 @@
 -- A well-formed front says nothing, or it is one word that is taken, before a well-formed front.
 use Rattle.std.proofs.Common.{◌≡◌, ℕ, ◌+◌, ◌-◌, ◌*◌, ◌^◌, ◌<◌, ◌≤◌, ◌⊎◌, List, [], ◌∷◌, map, length, get_or, set, Some, None, Option, sym, refl, ap, ◌∙◌, inl, inr, ⊎_elim, add-one, arith}
-use Rattle.std.specs.List.{AllByRecursion as All}
+use Rattle.std.specs.List.{AllByRecursion}
 use Rattle.std.proofs.lemmas.List.{get_or-set_same}
 use Rattle.words.specs.Words.{field}
 use Rattle.barriers.specs.Steps.{Match, Step}
@@ -180,7 +180,7 @@ module _ (counts : List ℕ) (s : BarrierForm) (sound : Sound s) where
       let from_is : field h 23 4 ≡ st.from = ap (λ x. x.from) says.step_is in
       let key_is = says.key_is in
       let count : length st.matches ≡ get_or s.lines (field h 13 4) 0 = rw (e, count_at s.lines s.last st.to to, ← to_is) at fit.matched in
-      let fits : All (MatchFits (get_or s.lines (field h 23 4) 0)) st.matches = rw (e, count_at s.lines s.last st.from from, ← from_is) at fit.matches_fit in
+      let fits : AllByRecursion (MatchFits (get_or s.lines (field h 23 4) 0)) st.matches = rw (e, count_at s.lines s.last st.from from, ← from_is) at fit.matches_fit in
       let rest = tail_waits (get_or s.lines (field h 13 4) 0) (get_or s.lines (field h 23 4) 0) (field h 17 11 + 1) st.matches ss (record { matched = count; matches_fit = fits; steps_rise = rw (key_is, add-one) t.steps_rise.1 }) in
       record {
         word = h;

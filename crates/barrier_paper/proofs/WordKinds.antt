@@ -1,6 +1,6 @@
 -- The kinds of the words that a well-formed barrier document is written as, and what the words of its steps and matches say.
 use Rattle.std.proofs.Common.{◌≡◌, ℕ, ◌^◌, ◌<◌, ◌≤◌, Bool, List, [], ◌∷◌, ◌++◌, map, length, arith}
-use Rattle.std.specs.List.{AllByRecursion as All}
+use Rattle.std.specs.List.{AllByRecursion}
 use Rattle.std.proofs.ByRecursion.{All-append, All-weaker, All-map, All-get_or}
 use Rattle.words.specs.Words.{kind}
 use Rattle.words.specs.Inverse.{Words}
@@ -11,14 +11,14 @@ use Rattle.barrier_paper.proofs.WordParts.{StepSays, line_head, line_good, weigh
 
 -- the kinds of all these words are between two
 abbrev pub Kinds : ℕ → ℕ → List ℕ → Type 0
-Kinds low high ws = All (λ w. (low ≤ kind w) × (kind w ≤ high)) ws
+Kinds low high ws = AllByRecursion (λ w. (low ≤ kind w) × (kind w ≤ high)) ws
 
 pub line_kind : (b : Bool) → kind (line_head b) ≡ 7
 line_kind b = (line_good b).0.kind_is
 
 -- the words of a line after its own, of a case after its own, and of all cases
 module _ (tanks : ℕ) where
-  weights_kinds : (k : ℕ) (ws : List Weight) → All (WeightFits tanks) ws → Kinds k k (map (weight_word k) ws)
+  weights_kinds : (k : ℕ) (ws : List Weight) → AllByRecursion (WeightFits tanks) ws → Kinds k k (map (weight_word k) ws)
   weights_kinds k [] h = tt
   weights_kinds k (w ∷ ws) h = let e = weight_kind tanks k w h.0 in ((omega arith, omega arith), weights_kinds k ws h.1)
 
@@ -33,7 +33,7 @@ module _ (tanks : ℕ) where
       let e = line_kind t.strict in
       ((omega arith, omega arith), All-weaker _ _ (λ w (m : (8 ≤ kind w) × (kind w ≤ 9)). (omega (arith, m.0), m.1)) _ (weights_of_line t h))
 
-  pub lines_of_case : (c : CaseText) → All (LineFits tanks) c → Kinds 7 9 (joined line_words c)
+  pub lines_of_case : (c : CaseText) → AllByRecursion (LineFits tanks) c → Kinds 7 9 (joined line_words c)
   lines_of_case [] h = tt
   lines_of_case (t ∷ c) h = All-append _ (line_words t) (joined line_words c) (line_kinds t h.0) (lines_of_case c h.1)
 
@@ -41,7 +41,7 @@ module _ (tanks : ℕ) where
   case_kinds c h =
       ((omega arith, omega arith), All-weaker _ _ (λ w (m : (7 ≤ kind w) × (kind w ≤ 9)). (omega (arith, m.0), m.1)) _ (lines_of_case c h.lines_fit))
 
-  pub cases_kinds : (cs : List CaseText) → All (CaseFits tanks) cs → Kinds 6 9 (joined case_words cs)
+  pub cases_kinds : (cs : List CaseText) → AllByRecursion (CaseFits tanks) cs → Kinds 6 9 (joined case_words cs)
   cases_kinds [] h = tt
   cases_kinds (c ∷ cs) h = All-append _ (case_words c) (joined case_words cs) (case_kinds c h.0) (cases_kinds cs h.1)
 
@@ -50,7 +50,7 @@ module _ (valves : ℕ) (cs : List CaseText) (few_cases : length cs ≤ most_cas
   pub step_says : (s : Step) → StepFits valves cs s → StepSays s
   step_says s h = step_word_says s (omega (arith, h.from_there)) h.valve_small (omega (arith, h.to_there))
 
-module _ (tanks valves : ℕ) (cs : List CaseText) (few_cases : length cs ≤ most_cases) (cases_fit : All (CaseFits tanks) cs) where
+module _ (tanks valves : ℕ) (cs : List CaseText) (few_cases : length cs ≤ most_cases) (cases_fit : AllByRecursion (CaseFits tanks) cs) where
   few_lines : (i : ℕ) → i < length cs → lines_in cs i ≤ most_lines
   few_lines i h = (All-get_or (CaseFits tanks) cs i [] h cases_fit).few_lines
 
@@ -70,7 +70,7 @@ module _ (tanks valves : ℕ) (cs : List CaseText) (few_cases : length cs ≤ mo
       let e = (step_says valves cs few_cases s h).kind_is in
       ((omega arith, omega arith), All-weaker _ _ (λ w (m : (11 ≤ kind w) × (kind w ≤ 11)). (omega (arith, m.0), m.1)) _ (matches_kinds s h))
 
-  pub steps_kinds : (ss : List Step) → All (StepFits valves cs) ss → Kinds 10 11 (joined step_words ss)
+  pub steps_kinds : (ss : List Step) → AllByRecursion (StepFits valves cs) ss → Kinds 10 11 (joined step_words ss)
   steps_kinds [] h = tt
   steps_kinds (s ∷ ss) h = All-append _ (step_words s) (joined step_words ss) (step_kinds s h.0) (steps_kinds ss h.1)
 

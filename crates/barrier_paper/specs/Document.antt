@@ -1,6 +1,6 @@
 -- A barrier paper as a document: its cases, each a list of lines with their weights, and its steps.
 use Rattle.std.specs.Prelude.{◌≡◌, ℕ, suc, ◌+◌, ◌*◌, ◌^◌, ◌<◌, ◌≤◌, Bool, cond, List, [], ◌∷◌, ◌++◌, map, length, ℤ, pos, ◌+ℤ◌, neg_ℤ, ◌==◌, slice_index_or}
-use Rattle.std.specs.List.{AllByRecursion as All}
+use Rattle.std.specs.List.{AllByRecursion}
 use Rattle.words.specs.Words.{bytes, field, kind}
 use Rattle.paper.specs.Limits.{most_evidence_words}
 use Rattle.barriers.specs.Lines.{Line, Barrier}
@@ -54,14 +54,14 @@ RisingWeights least [] = Unit {0}
 RisingWeights least (w ∷ ws) = (least ≤ w.tank) × RisingWeights (suc w.tank) ws
 
 pub record LineFits (tanks : ℕ) (l : LineText) : Type 0 where
-  pub lefts_fit : All (WeightFits tanks) l.lefts
+  pub lefts_fit : AllByRecursion (WeightFits tanks) l.lefts
   pub lefts_rise : RisingWeights 0 l.lefts
-  pub rights_fit : All (WeightFits tanks) l.rights
+  pub rights_fit : AllByRecursion (WeightFits tanks) l.rights
   pub rights_rise : RisingWeights 0 l.rights
 
 pub record CaseFits (tanks : ℕ) (c : CaseText) : Type 0 where
   pub few_lines : length c ≤ most_lines
-  pub lines_fit : All (LineFits tanks) c
+  pub lines_fit : AllByRecursion (LineFits tanks) c
 
 -- how many lines case i has
 abbrev pub lines_in : List CaseText → ℕ → ℕ
@@ -92,7 +92,7 @@ pub record StepFits (valves : ℕ) (cs : List CaseText) (s : Step) : Type 0 wher
   pub valve_small : s.valve < 64
   pub to_there : s.to < length cs
   pub matched : length s.matches ≡ lines_in cs s.to
-  pub matches_fit : All (MatchFits (lines_in cs s.from)) s.matches
+  pub matches_fit : AllByRecursion (MatchFits (lines_in cs s.from)) s.matches
 
 -- ---- writing
 
@@ -127,8 +127,8 @@ barrier_paper d = bytes (barrier_words d)
 pub record BarrierFormed (tanks valves : ℕ) (d : BarrierDocument) : Type 0 where
   pub some_cases : 1 ≤ length d.cases
   pub few_cases : length d.cases ≤ most_cases
-  pub cases_fit : All (CaseFits tanks) d.cases
-  pub steps_fit : All (StepFits valves d.cases) d.steps
+  pub cases_fit : AllByRecursion (CaseFits tanks) d.cases
+  pub steps_fit : AllByRecursion (StepFits valves d.cases) d.steps
   pub steps_rise : RisingSteps 0 d.steps
   pub few_words : length (barrier_words d) ≤ most_evidence_words
 

@@ -1,7 +1,7 @@
 -- What the judgement of a list of steps comes to, by induction over the list: the steps before it are judged, and every place
 -- before `low` with them.
 use Rattle.std.proofs.Common.{◌≡◌, ℕ, zero, suc, ◌+◌, ◌/◌, ◌%◌, ◌<◌, ◌≤◌, List, [], ◌∷◌, length, take, Some, None, Ok, Err, Option, Result, refl, ap, ◌∙◌, ⊎_elim, arith}
-use Rattle.std.specs.List.{AllByRecursion as All}
+use Rattle.std.specs.List.{AllByRecursion}
 use Rattle.std.proofs.lemmas.List.{length-append, length-map}
 use Rattle.std.proofs.lemmas.Bool.{cases_order}
 use Rattle.plant.specs.Net.{Net, Bounded}
@@ -149,7 +149,7 @@ module _ (N : Net) (b : Bounded N) (d : BarrierDocument) (few : length d.cases �
     closed = closed_more s ss low (step_key (step_at ss h.step)) fits none good h.closed;
   }
 
-  pub steps_come_to : (ss : List Step) (low at : ℕ) → RisingSteps low ss → All Fits ss → ComesTo N β ss low at (steps_judged N β low at ss)
+  pub steps_come_to : (ss : List Step) (low at : ℕ) → RisingSteps low ss → AllByRecursion Fits ss → ComesTo N β ss low at (steps_judged N β low at ss)
   steps_come_to [] low at r fits =
       refusing_both (ComesTo N β [] low at) (gap N (length β) low most_places) Missing (Ok tt)
       (λ k e. missing_here [] low most_places k tt (omega arith) (gap_some N b β (cases_small d few) low most_places k e))

@@ -1,6 +1,6 @@
 -- Step after step: what is yet to be judged, and that its answer is the answer to the whole.
 use Rattle.std.proofs.Common.{◌≡◌, ℕ, suc, ◌+◌, ◌*◌, ◌/◌, min, List, [], ◌∷◌, ◌++◌, map, length, get_or, take, drop, Ok, Err, Option, Result, sym, ap, ◌∙◌, arith, length-append}
-use Rattle.std.specs.List.{AllByRecursion as All}
+use Rattle.std.specs.List.{AllByRecursion}
 use Rattle.std.proofs.lemmas.List.{length-map, take_at, drop_at}
 use Rattle.plant.specs.Net.{Net}
 use Rattle.words.specs.Words.{words}
@@ -23,7 +23,7 @@ module _ (N : Net) (valves : ℕ) (d : BarrierDocument) (whole : Result (Unit {0
   -- the words are those of steps whose answer is the answer to the whole
   pub record Going (ws : List ℕ) (next at : ℕ) : Type 0 where
     pub steps : List Step
-    pub fits : All (StepFits valves d.cases) steps
+    pub fits : AllByRecursion (StepFits valves d.cases) steps
     pub written : ws ≡ joined step_words steps
     pub judged : steps_judged N (barrier_of d) next at steps ≡ whole
 
@@ -32,14 +32,14 @@ module _ (N : Net) (valves : ℕ) (d : BarrierDocument) (whole : Result (Unit {0
     pub step : Step
     pub more : List Step
     pub fit : StepFits valves d.cases step
-    pub more_fit : All (StepFits valves d.cases) more
+    pub more_fit : AllByRecursion (StepFits valves d.cases) more
     pub written : w ∷ ws ≡ step_words step ++ joined step_words more
     pub judged : onward (step_judged N (barrier_of d) next at step) (λ n. steps_judged N (barrier_of d) n (at + suc (length step.matches)) more) ≡ whole
 
   pub peel : (vs : List ℕ) (next at : ℕ) → Going vs next at → (w : ℕ) (ws : List ℕ) → vs ≡ w ∷ ws → NextStep w ws next at
   peel vs next at g w ws e = from g.steps g.fits (sym e ∙ g.written) g.judged
     where
-      from : (ss : List Step) → All (StepFits valves d.cases) ss → w ∷ ws ≡ joined step_words ss → steps_judged N (barrier_of d) next at ss ≡ whole → NextStep w ws next at
+      from : (ss : List Step) → AllByRecursion (StepFits valves d.cases) ss → w ∷ ws ≡ joined step_words ss → steps_judged N (barrier_of d) next at ss ≡ whole → NextStep w ws next at
       from [] fits written judged = absurd (omega (arith, ap length written))
       from (s ∷ ss) fits written judged = record { step = s; more = ss; fit = fits.0; more_fit = fits.1; written = written; judged = judged }
 

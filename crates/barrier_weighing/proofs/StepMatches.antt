@@ -1,6 +1,6 @@
 -- The matches of a step of a document, by its words and the tables of its cases.
 use Rattle.std.proofs.Common.{◌≡◌, ℕ, ◌<◌, true, false, not, List, [], ◌∷◌, map, length, get_or, None, Option, sym, refl, ap, ◌∙◌, subst, arith}
-use Rattle.std.specs.List.{AllByRecursion as All}
+use Rattle.std.specs.List.{AllByRecursion}
 use Rattle.std.proofs.lemmas.List.{length-map}
 use Rattle.std.proofs.lemmas.Bool.{cond-true, cond-false}
 use Rattle.plant.specs.Net.{Net}
@@ -41,7 +41,7 @@ module _ (x : Cases) (tanks valves : ℕ) (d : BarrierDocument) (of : TablesOf x
     reached_is = case_of w.to s.to z' says.to fit.to_there
 
     -- each match is said by its word
-    said : (ms : List Match) → All (MatchFits (lines_in d.cases s.from)) ms → map match_said (map match_word ms) ≡ ms
+    said : (ms : List Match) → AllByRecursion (MatchFits (lines_in d.cases s.from)) ms → map match_said (map match_word ms) ≡ ms
     said [] h = refl
     said (m ∷ ms) h = ap (λ y. y ∷ map match_said (map match_word ms)) (match_says tanks valves d.cases of.formed.few_cases of.formed.cases_fit s.from fit.from_there m h.0) ∙ ap (λ ys. m ∷ ys) (said ms h.1)
 
@@ -49,7 +49,7 @@ module _ (x : Cases) (tanks valves : ℕ) (d : BarrierDocument) (of : TablesOf x
     matches_said = ap (map match_said) written ∙ said s.matches fit.matches_fit
 
     -- and names a line
-    names : (ms : List Match) → All (MatchFits (lines_in d.cases s.from)) ms → All (λ v. (match_said v).line < length left) (map match_word ms)
+    names : (ms : List Match) → AllByRecursion (MatchFits (lines_in d.cases s.from)) ms → AllByRecursion (λ v. (match_said v).line < length left) (map match_word ms)
     names [] h = tt
     names (m ∷ ms) h =
         let line = ap (λ (y : Match). y.line) (match_says tanks valves d.cases of.formed.few_cases of.formed.cases_fit s.from fit.from_there m h.0) in
@@ -58,7 +58,7 @@ module _ (x : Cases) (tanks valves : ℕ) (d : BarrierDocument) (of : TablesOf x
     pub match_words : MatchWords left reached ws
     match_words = record {
       matched = ap length written ∙ (length-map s.matches match_word ∙ (fit.matched ∙ (sym (lines_kept d s.to) ∙ ap length (sym reached_is))));
-      named = subst (All (λ v. (match_said v).line < length left)) (sym written) (names s.matches fit.matches_fit);
+      named = subst (AllByRecursion (λ v. (match_said v).line < length left)) (sym written) (names s.matches fit.matches_fit);
     }
 
     module _ (N : Net) where

@@ -1,6 +1,6 @@
 -- The matches of a step, by the words that write them.
 use Rattle.std.specs.Prelude.{◌≡◌, ℕ, ◌<◌, Bool, not, List, map, length, Option, slice_index_or}
-use Rattle.std.specs.List.{AllByRecursion as All}
+use Rattle.std.specs.List.{AllByRecursion}
 use Rattle.plant.specs.Net.{Net}
 use Rattle.starting.specs.Starting.{first_below}
 use Rattle.barriers.specs.Lines.{Case, line_at}
@@ -21,7 +21,7 @@ bad_match N way t φ φ' ws = first_below (length φ') (λ k. not (good_match N 
 -- there is a word for each line of the case reached, and each names a line of the case left
 pub record MatchWords (φ φ' : Case) (ws : List ℕ) : Type 0 where
   pub matched : length ws ≡ length φ'
-  pub named : All (λ w. (match_said w).line < length φ) ws
+  pub named : AllByRecursion (λ w. (match_said w).line < length φ) ws
 
 -- what a step word says
 pub record Says (x : StepWord) (s : Step) : Type 0 where

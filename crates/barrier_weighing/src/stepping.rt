@@ -1,6 +1,6 @@
 // The steps of a barrier, in the order of their places.
 ghost use Rattle.std.specs.Prelude.{◌≡◌, ℕ, ◌+◌, ◌^◌, ◌<◌, List, ◌∷◌, length};
-ghost use Rattle.std.specs.List.{AllByRecursion as All};
+ghost use Rattle.std.specs.List.{AllByRecursion};
 ghost use Rattle.words.specs.Words.{words};
 ghost use Rattle.barriers.specs.Steps.{Step};
 ghost use Rattle.barrier_paper.specs.Document.{BarrierDocument, StepFits, barrier_of, joined, step_words};
@@ -67,7 +67,7 @@ pub(crate) fn judge_steps<P: Plant>(
     steps: &[u8],
 ) -> Result<(), BarrierFault>
     requires { start + length (words steps.now) < 2 ^ 62 }
-    ensures { (tanks valves : ℕ) (d : BarrierDocument) (ss : List Step) → TablesOf cases.now tanks valves d → All (StepFits valves d.cases) ss → words steps.now ≡ joined step_words ss → result ≡ steps_judged (P.Plant.meaning plant.now) (barrier_of d) 0 start ss }
+    ensures { (tanks valves : ℕ) (d : BarrierDocument) (ss : List Step) → TablesOf cases.now tanks valves d → AllByRecursion (StepFits valves d.cases) ss → words steps.now ≡ joined step_words ss → result ≡ steps_judged (P.Plant.meaning plant.now) (barrier_of d) 0 start ss }
 {
     let mut next = 0;
     let mut at = start;

@@ -1,6 +1,6 @@
 -- The runs that a dossier is cut into.
 use Rattle.std.proofs.Common.{◌≡◌, ℕ, ◌+◌, ◌*◌, Bool, true, false, cond, ◌≢◌, List, [], ◌∷◌, ◌++◌, take, drop, sym, refl, ap, ◌∙◌, subst, one-add}
-use Rattle.std.specs.List.{prefix_len, AllByRecursion as All}
+use Rattle.std.specs.List.{prefix_len, AllByRecursion}
 use Rattle.std.proofs.lemmas.List.{take-append-drop}
 use Rattle.std.proofs.ByRecursion.{All-weaker}
 use Rattle.std.proofs.lemmas.Bool.{eqb-true, eqb-false, not-true, not-false}
@@ -17,11 +17,11 @@ Stops p [] = Unit {0}
 Stops p (w ∷ ws) = p w ≡ false
 
 module _ (p : ℕ → Bool) where
-  lead_all : (ws : List ℕ) → All (λ w. p w ≡ true) (take (prefix_len p ws) ws)
+  lead_all : (ws : List ℕ) → AllByRecursion (λ w. p w ≡ true) (take (prefix_len p ws) ws)
   lead_all [] = tt
   lead_all (w ∷ ws) = by (p w) refl (lead_all ws)
     where
-      by : (b : Bool) → p w ≡ b → All (λ v. p v ≡ true) (take (prefix_len p ws) ws) → All (λ v. p v ≡ true) (take (cond b (1 + prefix_len p ws) 0) (w ∷ ws))
+      by : (b : Bool) → p w ≡ b → AllByRecursion (λ v. p v ≡ true) (take (prefix_len p ws) ws) → AllByRecursion (λ v. p v ≡ true) (take (cond b (1 + prefix_len p ws) 0) (w ∷ ws))
       by true e more = rw one-add (e, more)
       by false e more = tt
 
@@ -37,8 +37,8 @@ module _ (run : Run) (bs : List ℕ) where
   run_joined : run_of run bs ++ after run bs ≡ bs
   run_joined = take-append-drop (4 * prefix_len (goes_on run) (words bs)) bs
 
-  run_all : All (λ w. goes_on run w ≡ true) (words (run_of run bs))
-  run_all = subst (All (λ w. goes_on run w ≡ true)) (sym (words_take (prefix_len (goes_on run) (words bs)) bs)) (lead_all (goes_on run) (words bs))
+  run_all : AllByRecursion (λ w. goes_on run w ≡ true) (words (run_of run bs))
+  run_all = subst (AllByRecursion (λ w. goes_on run w ≡ true)) (sym (words_take (prefix_len (goes_on run) (words bs)) bs)) (lead_all (goes_on run) (words bs))
 
   run_stops : Stops (goes_on run) (words (after run bs))
   run_stops = subst (Stops (goes_on run)) (sym (words_drop (prefix_len (goes_on run) (words bs)) bs)) (lead_stops (goes_on run) (words bs))
@@ -57,10 +57,10 @@ opens_otherwise : (k : ℕ) (ws : List ℕ) → Stops (goes_on (Of k)) ws → Op
 opens_otherwise k [] s = tt
 opens_otherwise k (w ∷ ws) s = eqb-false (kind w) k s
 
-all_of : (k : ℕ) (ws : List ℕ) → All (λ w. goes_on (Of k) w ≡ true) ws → All (λ w. kind w ≡ k) ws
+all_of : (k : ℕ) (ws : List ℕ) → AllByRecursion (λ w. goes_on (Of k) w ≡ true) ws → AllByRecursion (λ w. kind w ≡ k) ws
 all_of k ws = All-weaker (λ w. goes_on (Of k) w ≡ true) (λ w. kind w ≡ k) (λ w. eqb-true (kind w) k) ws
 
-none_of : (k : ℕ) (ws : List ℕ) → All (λ w. goes_on (Before k) w ≡ true) ws → All (λ w. kind w ≢ k) ws
+none_of : (k : ℕ) (ws : List ℕ) → AllByRecursion (λ w. goes_on (Before k) w ≡ true) ws → AllByRecursion (λ w. kind w ≢ k) ws
 none_of k ws = All-weaker (λ w. goes_on (Before k) w ≡ true) (λ w. kind w ≢ k) (λ w e. eqb-false (kind w) k (not-true _ e)) ws
 
 pub parts_go_by_kind : PartsGoByKind

@@ -1,6 +1,6 @@
 -- Words that are written are cut off and read again.
 use Rattle.std.proofs.Common.{◌≡◌, ℕ, ◌+◌, ◌*◌, ◌/◌, ◌%◌, ◌^◌, ◌<◌, ◌≤◌, Bool, true, false, eqb, ◌≢◌, List, [], ◌∷◌, ◌++◌, length, Ok, Result, refl, ap, ◌∙◌, arith}
-use Rattle.std.specs.List.{prefix_len, AllByRecursion as All}
+use Rattle.std.specs.List.{prefix_len, AllByRecursion}
 use Rattle.std.proofs.lemmas.List.{take_at, drop_at}
 use Rattle.std.proofs.ByRecursion.{All-weaker, All-map}
 use Rattle.std.proofs.lemmas.Bool.{eq-eqb, ne_eqb, not_from_false, cond-true, cond-false}
@@ -31,7 +31,7 @@ words_before [] bs h = refl
 words_before (w ∷ ws) bs h = ap (λ v. v ∷ words (bytes ws ++ bs)) (again w h.0) ∙ ap (λ vs. w ∷ vs) (words_before ws bs h.1)
 
 -- a run that stops where other words begin
-lead_whole : (p : ℕ → Bool) (ws vs : List ℕ) → All (λ w. p w ≡ true) ws → Stops p vs → prefix_len p (ws ++ vs) ≡ length ws
+lead_whole : (p : ℕ → Bool) (ws vs : List ℕ) → AllByRecursion (λ w. p w ≡ true) ws → Stops p vs → prefix_len p (ws ++ vs) ≡ length ws
 lead_whole p [] [] a s = refl
 lead_whole p [] (v ∷ vs) a s = cond-false (p v) (1 + prefix_len p vs) 0 s
 lead_whole p (w ∷ ws) vs a s = cond-true (p w) (1 + prefix_len p (ws ++ vs)) 0 a.0 ∙ omega (arith, lead_whole p ws vs a.1 s)
@@ -41,16 +41,16 @@ pub record IsCutOff (run : Run) (bs cs : List ℕ) : Type 0 where
   pub run_is : run_of run (bs ++ cs) ≡ bs
   pub rest_is : after run (bs ++ cs) ≡ cs
 
-pub cut_off : (run : Run) (ws bs : List ℕ) → Words ws → All (λ w. goes_on run w ≡ true) ws → Stops (goes_on run) (words bs) → IsCutOff run (bytes ws) bs
+pub cut_off : (run : Run) (ws bs : List ℕ) → Words ws → AllByRecursion (λ w. goes_on run w ≡ true) ws → Stops (goes_on run) (words bs) → IsCutOff run (bytes ws) bs
 cut_off run ws bs small all stops =
     let n : prefix_len (goes_on run) (words (bytes ws ++ bs)) ≡ length ws = ap (prefix_len (goes_on run)) (words_before ws bs small) ∙ lead_whole (goes_on run) ws (words bs) all stops in
     let m : length (bytes ws) ≡ 4 * prefix_len (goes_on run) (words (bytes ws ++ bs)) = omega (arith, length_bytes ws) in
     record { run_is = take_at (bytes ws) bs _ m; rest_is = drop_at (bytes ws) bs _ m }
 
-pub goes_before : (k : ℕ) (ws : List ℕ) → All (λ w. kind w ≢ k) ws → All (λ w. goes_on (Before k) w ≡ true) ws
+pub goes_before : (k : ℕ) (ws : List ℕ) → AllByRecursion (λ w. kind w ≢ k) ws → AllByRecursion (λ w. goes_on (Before k) w ≡ true) ws
 goes_before k ws = All-weaker (λ w. kind w ≢ k) (λ w. goes_on (Before k) w ≡ true) (λ w h. not_from_false _ (ne_eqb (kind w) k h)) ws
 
-pub goes_with : (k : ℕ) (ws : List ℕ) → All (λ w. kind w ≡ k) ws → All (λ w. goes_on (Of k) w ≡ true) ws
+pub goes_with : (k : ℕ) (ws : List ℕ) → AllByRecursion (λ w. kind w ≡ k) ws → AllByRecursion (λ w. goes_on (Of k) w ≡ true) ws
 goes_with k ws = All-weaker (λ w. kind w ≡ k) (λ w. goes_on (Of k) w ≡ true) (λ w. eq-eqb (kind w) k) ws
 
 pub stops_otherwise : (k : ℕ) (ws : List ℕ) → OpensOtherwise k ws → Stops (goes_on (Of k)) ws
@@ -71,7 +71,7 @@ low : (g : Bool) → arc_kind g ≤ 3
 low true = omega arith
 low false = omega arith
 
-pub plain_plant : (d : PlantDocument) → PlantFormed d → All Plain (plant_words d)
+pub plain_plant : (d : PlantDocument) → PlantFormed d → AllByRecursion Plain (plant_words d)
 plain_plant d f = (
   plain_head d.tanks d.valves f.few_tanks f.few_valves,
   All-map Plain arc_word d.arcs (All-weaker (ArcFits d.tanks d.valves) (λ a. Plain (arc_word a)) arc d.arcs f.arcs_fit),
@@ -83,7 +83,7 @@ plain_plant d f = (
 pub plant_small : (d : PlantDocument) → PlantFormed d → Words (plant_words d)
 plant_small d f = All-weaker Plain (λ w. w < 2 ^ 32) (λ w h. h.0) (plant_words d) (plain_plant d f)
 
-pub plant_kinds : (k : ℕ) → 3 < k → (d : PlantDocument) → PlantFormed d → All (λ w. kind w ≢ k) (plant_words d)
+pub plant_kinds : (k : ℕ) → 3 < k → (d : PlantDocument) → PlantFormed d → AllByRecursion (λ w. kind w ≢ k) (plant_words d)
 plant_kinds k l d f = All-weaker Plain (λ w. kind w ≢ k) (λ w h e. omega (arith, h.1)) (plant_words d) (plain_plant d f)
 
 -- the words of a filling
@@ -104,15 +104,15 @@ amount k t a hk ht ha =
     ∙ (cond-true (eqb (field (fill_word k t a) 22 6) t) _ _ (eq-eqb _ _ p.tank_is) ∙ ap Ok p.amount_is)
 
 module _ (k : ℕ) (hk : k < 16) where
-  pub fill_small : (t : ℕ) (A : List ℕ) → t + length A ≤ 64 → All (λ a. a < 2 ^ 20) A → Words (fill_words k t A)
+  pub fill_small : (t : ℕ) (A : List ℕ) → t + length A ≤ 64 → AllByRecursion (λ a. a < 2 ^ 20) A → Words (fill_words k t A)
   fill_small t [] few h = tt
   fill_small t (a ∷ A) few h = ((put k t a hk (omega arith) h.0).small, fill_small (t + 1) A (omega arith) h.1)
 
-  pub fill_kinds : (t : ℕ) (A : List ℕ) → t + length A ≤ 64 → All (λ a. a < 2 ^ 20) A → All (λ w. kind w ≡ k) (fill_words k t A)
+  pub fill_kinds : (t : ℕ) (A : List ℕ) → t + length A ≤ 64 → AllByRecursion (λ a. a < 2 ^ 20) A → AllByRecursion (λ w. kind w ≡ k) (fill_words k t A)
   fill_kinds t [] few h = tt
   fill_kinds t (a ∷ A) few h = ((put k t a hk (omega arith) h.0).kind_is, fill_kinds (t + 1) A (omega arith) h.1)
 
-  pub fill_back : (t : ℕ) (A : List ℕ) → t + length A ≤ 64 → All (λ a. a < 2 ^ 20) A → fill_read t (fill_words k t A) ≡ Ok A
+  pub fill_back : (t : ℕ) (A : List ℕ) → t + length A ≤ 64 → AllByRecursion (λ a. a < 2 ^ 20) A → fill_read t (fill_words k t A) ≡ Ok A
   fill_back t [] few h = refl
   fill_back t (a ∷ A) few h =
       ap (λ (r : Result ℕ PaperFault). onward r (λ x. onward (fill_read (t + 1) (fill_words k (t + 1) A)) (λ more. Ok (x ∷ more)))) (amount k t a hk (omega arith) h.0)

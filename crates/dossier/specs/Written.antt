@@ -1,6 +1,6 @@
 -- A dossier that is written part by part.
 use Rattle.std.specs.Prelude.{◌≡◌, ℕ, ◌+◌, ◌*◌, ◌%◌, ◌^◌, ◌<◌, ◌≤◌, List, [], ◌∷◌, ◌++◌, length}
-use Rattle.std.specs.List.{AllByRecursion as All}
+use Rattle.std.specs.List.{AllByRecursion}
 use Rattle.plant.specs.Limits.{most_tanks}
 use Rattle.words.specs.Words.{words, bytes}
 use Rattle.words.specs.Faults.{raised}
@@ -27,7 +27,7 @@ fill_paper k A = bytes (fill_words k 0 A)
 -- amounts that can be written: no more than there can be tanks, each of 20 bits
 pub record Fillable (A : List ℕ) : Type 0 where
   pub few : length A ≤ most_tanks
-  pub small : All (λ amount. amount < 2 ^ 20) A
+  pub small : AllByRecursion (λ amount. amount < 2 ^ 20) A
 
 abbrev pub dossier_paper : PlantDocument → List ℕ → List ℕ → List ℕ → List ℕ
 dossier_paper d A B evidence = plant_paper d ++ (fill_paper source_kind A ++ (fill_paper target_kind B ++ evidence))

@@ -1,6 +1,6 @@
 -- Writing and reading totals papers are inverse to each other.
 use Rattle.std.proofs.Common.{◌≡◌, ℕ, suc, ◌+◌, ◌*◌, ◌/◌, ◌^◌, ◌<◌, ◌≤◌, List, [], ◌∷◌, length, Ok, ap, ◌∙◌, arith}
-use Rattle.std.specs.List.{AllByRecursion as All}
+use Rattle.std.specs.List.{AllByRecursion}
 use Rattle.std.proofs.lemmas.List.{length-map}
 use Rattle.std.proofs.ByRecursion.{All-weaker}
 use Rattle.plant.specs.Limits.{most_valves, most_divisor, most_total}
@@ -153,7 +153,7 @@ totals_papers_are_exact = record {
   read_is_written = λ valves bs small d p. formed_of_read valves bs d p small;
 }
 
-positive : (valves : ℕ) (fs : List Firing) → All (TotalFits valves) fs → Positive fs
+positive : (valves : ℕ) (fs : List Firing) → AllByRecursion (TotalFits valves) fs → Positive fs
 positive valves [] h = tt
 positive valves (f ∷ fs) h = (h.0.some, positive valves fs h.1)
 
@@ -161,7 +161,7 @@ pub tallied : (valves : ℕ) (d : TotalsDocument) → TotalsFormed valves d → 
 tallied valves d f = record { divisor = f.some_divisor; positive = positive valves d.totals f.totals_fit; rising = f.totals_rise }
 
 -- valves that rise from n on and stay below v are at most v - n
-pub rising_few : (n v : ℕ) (fs : List Firing) → n ≤ v → Rising n fs → All (λ f. f.valve < v) fs → length fs + n ≤ v
+pub rising_few : (n v : ℕ) (fs : List Firing) → n ≤ v → Rising n fs → AllByRecursion (λ f. f.valve < v) fs → length fs + n ≤ v
 rising_few n v [] h r a = omega arith
 rising_few n v (f ∷ fs) h r a = omega (arith, r.0, rising_few (suc f.valve) v fs a.0 r.1 a.1)
 

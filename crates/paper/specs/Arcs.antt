@@ -1,6 +1,6 @@
 -- A plant paper as a document: the two counts and the arcs, each with what its valve takes from or gives to its tank.
 use Rattle.std.specs.Prelude.{ℕ, suc, ◌+◌, ◌*◌, ◌^◌, ◌<◌, ◌≤◌, Bool, true, false, cond, not, ◌&&◌, List, [], ◌∷◌, map, length, ◌==◌, nat_lt}
-use Rattle.std.specs.List.{AllByRecursion as All}
+use Rattle.std.specs.List.{AllByRecursion}
 use Rattle.plant.specs.Limits.{most_tanks, most_valves, most_weight}
 use Rattle.plant.specs.Net.{Net}
 use Rattle.words.specs.Words.{bytes, field, kind}
@@ -43,7 +43,7 @@ pub record PlantFormed (d : PlantDocument) : Type 0 where
   pub few_tanks : d.tanks ≤ most_tanks
   pub some_valves : 1 ≤ d.valves
   pub few_valves : d.valves ≤ most_valves
-  pub arcs_fit : All (ArcFits d.tanks d.valves) d.arcs
+  pub arcs_fit : AllByRecursion (ArcFits d.tanks d.valves) d.arcs
   pub arcs_rise : RisingArcs 0 d.arcs
   pub few_words : suc (length d.arcs) ≤ most_plant_words
 

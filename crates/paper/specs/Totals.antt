@@ -1,6 +1,6 @@
 -- A totals paper as a document: the divisor, and a total for each of some valves.
 use Rattle.std.specs.Prelude.{ℕ, suc, ◌+◌, ◌*◌, ◌^◌, ◌<◌, ◌≤◌, List, [], ◌∷◌, map, length}
-use Rattle.std.specs.List.{AllByRecursion as All}
+use Rattle.std.specs.List.{AllByRecursion}
 use Rattle.plant.specs.Limits.{most_valves, most_divisor, most_total}
 use Rattle.plant.specs.Walk.{Firing}
 use Rattle.plant.specs.Totals.{Rising}
@@ -22,7 +22,7 @@ pub record TotalFits (valves : ℕ) (f : Firing) : Type 0 where
 pub record TotalsFormed (valves : ℕ) (d : TotalsDocument) : Type 0 where
   pub some_divisor : 1 ≤ d.divisor
   pub small_divisor : d.divisor ≤ most_divisor
-  pub totals_fit : All (TotalFits valves) d.totals
+  pub totals_fit : AllByRecursion (TotalFits valves) d.totals
   pub totals_rise : Rising 0 d.totals
   pub few_words : suc (length d.totals) ≤ most_evidence_words
 

@@ -2,7 +2,7 @@
 use Rattle.std.proofs.Common.{◌≡◌, ℕ, ◌+◌, ◌-◌, ◌*◌, ◌<◌, ◌≤◌, true, List, [], ◌∷◌, ◌++◌, map, reverse, sym, refl, ap, mul-le-mul_left, arith}
 use mathlib.Core.List.{reverse_aux}
 use native.Mathlib.Nat.{one-le-mul}
-use Rattle.std.specs.List.{AllByRecursion as All}
+use Rattle.std.specs.List.{AllByRecursion}
 use Rattle.plant.specs.Net.{Net, turned}
 use Rattle.plant.specs.Walk.{Firing, Marking, Fires, Leads, stays, fires, Walk}
 use Rattle.plant.specs.Firings.{taken, given}
@@ -67,7 +67,7 @@ module _ (N : Net) where
     pub is_open : N.opens f.valve ≡ true
     pub some : 1 ≤ f.amount
 
-  pub leads_whole : (m m' : Marking) (fs : List Firing) → All Ready fs → ((r : ℕ) → r < N.tanks → taken N fs r ≤ m r) → ((r : ℕ) → r < N.tanks → m' r + taken N fs r ≡ m r + given N fs r) → Leads N m fs m'
+  pub leads_whole : (m m' : Marking) (fs : List Firing) → AllByRecursion Ready fs → ((r : ℕ) → r < N.tanks → taken N fs r ≤ m r) → ((r : ℕ) → r < N.tanks → m' r + taken N fs r ≡ m r + given N fs r) → Leads N m fs m'
   leads_whole m m' [] ok enough e = stays (λ r l. omega (arith, e r l))
   leads_whole m m' (f ∷ fs) ok enough e =
       fires

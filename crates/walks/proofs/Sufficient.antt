@@ -1,7 +1,7 @@
 -- Totals that meet the rule account for a walk.
 use Rattle.std.proofs.Common.{◌≡◌, ℕ, zero, suc, ◌+◌, ◌-◌, ◌*◌, ◌<◌, ◌≤◌, true, false, List, [], ◌∷◌, ◌++◌, map, reverse, sym, ap, ◌∙◌, inl, inr, ⊎_elim, mul_assoc, add-mul, mul-le-mul_left, mul-zero, arith}
 use native.Mathlib.Nat.{one-le-mul}
-use Rattle.std.specs.List.{AllByRecursion as All}
+use Rattle.std.specs.List.{AllByRecursion}
 use Rattle.std.proofs.lemmas.Bool.{cases_lt, cases_Bool, false≢true, true≢false}
 use Rattle.plant.specs.Net.{Net, Bounded, turned}
 use Rattle.plant.specs.Bounds.{turned_bounded}
@@ -17,7 +17,7 @@ use Rattle.walks.proofs.Setting.{Set, set_by}
 pub open_below : (N : Net) → Bounded N → (t : ℕ) → N.opens t ≡ true → t < N.valves
 open_below N b t o = ⊎_elim (λ (l : t < N.valves). l) (λ (l : N.valves ≤ t). absurd (true≢false (sym o ∙ b.closed_beyond t l))) (cases_lt t N.valves)
 
-ready : (N : Net) (fs : List Firing) → Positive fs → ((t : ℕ) → named fs t ≡ true → N.opens t ≡ true) → All (Ready N) fs
+ready : (N : Net) (fs : List Firing) → Positive fs → ((t : ℕ) → named fs t ≡ true → N.opens t ≡ true) → AllByRecursion (Ready N) fs
 ready N [] p o = tt
 ready N (f ∷ fs) p o = (record { is_open = o f.valve (named_head f fs); some = p.0 }, ready N fs p.1 (λ t h. o t (named_tail f fs t h)))
 
@@ -32,7 +32,7 @@ named_copies (suc a) fs t h = ⊎_elim (λ (k : named fs t ≡ true). k) (λ (k 
 
 -- from n times M to n times M', by firing fs n times, each time by the same small step
 module _ (N : Net) (M M' : Marking) (fs : List Firing) (n : ℕ)
-    (ok : All (Ready N) fs)
+    (ok : AllByRecursion (Ready N) fs)
     (small : (r : ℕ) → r < N.tanks → taken N fs r ≤ n)
     (wet : (r : ℕ) → r < N.tanks → 1 ≤ taken N fs r → (1 ≤ M r) × (1 ≤ M' r))
     (moved : (r : ℕ) → r < N.tanks → M' r + taken N fs r ≡ M r + given N fs r) where
@@ -191,7 +191,7 @@ module _ (N : Net) (b : Bounded N) (A B : List ℕ) (w : ℕ) (vs : List Firing)
   unfolding n
   n_positive = omega arith
 
-  bulk_ready : All (Ready N) bulk
+  bulk_ready : AllByRecursion (Ready N) bulk
   unfolding bulk
   bulk_ready = ready N bulk (positive_upto N.valves (λ t. K * total vs t - total spent t) [] tt) (λ t h. ok.opened t (bulk_only t h))
 

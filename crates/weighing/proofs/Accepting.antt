@@ -1,6 +1,6 @@
 -- A weighing answers JOINED exactly when the totals are accepted; accepted totals have a walk, and the totals of a walk are accepted.
 use Rattle.std.proofs.Common.{◌≡◌, ℕ, zero, suc, ◌<◌, ◌≤◌, Bool, true, false, cond, eqb, ltb, List, [], ◌∷◌, length, None, Ok, Err, Result, refl, ap, ◌∙◌, ⊎_elim, arith}
-use Rattle.std.specs.List.{AllByRecursion as All}
+use Rattle.std.specs.List.{AllByRecursion}
 use Rattle.std.proofs.ByRecursion.{All-weaker}
 use Rattle.std.proofs.lemmas.List.{get_or_past}
 use Rattle.std.proofs.lemmas.Bool.{cases_lt, cond-true, eqb-true, eq-eqb, le-ltb, ltb-false}
@@ -90,15 +90,15 @@ module _ (N : Net) (b : Bounded N) (A B bs : List ℕ) where
   accepted_walk a = sufficient N b A B a.document.divisor a.document.totals (tallied N.valves a.document a.formed) a.meets
 
 -- a listing of totals fits where each of them does
-listed_fit : (P : Firing → Type 0) (n : ℕ) (v : ℕ → ℕ) (after : List Firing) → ((t : ℕ) → t < n → 1 ≤ v t → P (record { valve = t; amount = v t })) → All P after → All P (upto n v after)
+listed_fit : (P : Firing → Type 0) (n : ℕ) (v : ℕ → ℕ) (after : List Firing) → ((t : ℕ) → t < n → 1 ≤ v t → P (record { valve = t; amount = v t })) → AllByRecursion P after → AllByRecursion P (upto n v after)
 listed_fit P zero v after h a = a
 listed_fit P (suc n) v after h a =
-    upto_either n v after (All P)
+    upto_either n v after (AllByRecursion P)
     (λ k. listed_fit P n v (record { valve = n; amount = v n } ∷ after) (λ t l. h t (omega arith)) (h n (omega arith) k, a))
     (λ z. listed_fit P n v after (λ t l. h t (omega arith)) a)
 
 module _ (N : Net) (b : Bounded N) (A B : List ℕ) (x : Walk N A B) (w : WithinLimits N A B x) where
-  fit : All (TotalFits N.valves) (totals N x.firings)
+  fit : AllByRecursion (TotalFits N.valves) (totals N x.firings)
   fit =
       listed_fit (TotalFits N.valves) N.valves (total x.firings) []
       (λ t l k. record { valve_there = l; valve_small = omega (arith, b.few_valves); some = k; few = w.small_totals t })
