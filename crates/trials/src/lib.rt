@@ -2,7 +2,7 @@
 #![tactic(auto)]
 
 #[cfg(test)]
-mod barriers;
+mod barrier_papers;
 #[cfg(test)]
 mod barrings;
 #[cfg(test)]
