@@ -1,5 +1,5 @@
 // A line's sides, and whether it holds.
-ghost use Rattle.std.specs.Prelude.{◌≡◌, ℕ, ◌≤◌, get_or, pos, slice_index, slice_index_or, unsigned_abs};
+ghost use Rattle.std.specs.Prelude.{◌≡◌, ℕ, ◌≤◌, pos, slice_index, slice_index_or, unsigned_abs};
 ghost use Rattle.plant.specs.Limits.{most_amount};
 ghost use Rattle.plant.specs.Walk.{Marking};
 ghost use Rattle.barriers.specs.Lines.{side};
@@ -16,7 +16,7 @@ use plant::limits::MOST_TANKS;
 pub(crate) fn side_of(weights: &[i32; MOST_TANKS], amounts: &[u32; MOST_TANKS], tanks: usize) -> i64
     requires weights { (r : ℕ) → unsigned_abs (slice_index_or weights.now r (pos 0)) ≤ most_weight_sum }
     requires amounts { (r : ℕ) → slice_index amounts.now r ≤ most_amount }
-    ensures { (m : Marking) → Tabulates amounts.now m → result ≡ side (λ r. get_or weights.now r (pos 0)) m tanks }
+    ensures { (m : Marking) → Tabulates amounts.now m → result ≡ side (λ r. slice_index_or weights.now r (pos 0)) m tanks }
 {
     let mut sum = 0;
     for tank in 0..tanks.min(MOST_TANKS) {

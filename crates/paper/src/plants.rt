@@ -1,5 +1,5 @@
 // What a paper plant is asked.
-ghost use Rattle.std.specs.Prelude.{◌≡◌, ℕ, ◌/◌, ◌^◌, ◌<◌, ◌≤◌, ◌&&◌, ltb, map, length, if◌then◌else◌, nat_lt, slice_index};
+ghost use Rattle.std.specs.Prelude.{◌≡◌, ℕ, ◌/◌, ◌^◌, ◌<◌, ◌≤◌, ◌&&◌, map, length, if◌then◌else◌, nat_lt, slice_index};
 ghost use Rattle.words.specs.Words.{words};
 ghost use Rattle.paper.specs.Arcs.{arc_kind, weight_in, arc_of};
 ghost use Rattle.paper.specs.PlantForm.{plant_read, plant_made, plant_counts};
@@ -95,7 +95,7 @@ impl<'a> PaperPlant<'a> {
 
     // The weight of the outlet arc, or of the intake arc, of a valve and a tank.
     fn weight(&self, gives: bool, valve: usize, tank: usize) -> u16
-        ensures { result ≡ (if ltb valve self.now.counts.valves && nat_lt tank self.now.counts.tanks then weight_in gives (map arc_of (words self.now.arcs.now)) valve tank else 0) }
+        ensures { result ≡ (if nat_lt valve self.now.counts.valves && nat_lt tank self.now.counts.tanks then weight_in gives (map arc_of (words self.now.arcs.now)) valve tank else 0) }
     {
         if valve >= self.counts.valves || tank >= self.counts.tanks {
             return 0;

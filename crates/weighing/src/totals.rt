@@ -66,7 +66,7 @@ fn first_unbalanced<P: Plant>(
     paper: &TotalsPaper,
 ) -> Option<usize>
     requires sized { Sized paper.now }
-    requires source_len { (length source.now ≡ (P.Plant.meaning plant.now).tanks) × (length target.now ≡ (P.Plant.meaning plant.now).tanks) }
+    requires lengths { (length source.now ≡ (P.Plant.meaning plant.now).tanks) × (length target.now ≡ (P.Plant.meaning plant.now).tanks) }
     ensures { result ≡ unbalanced (P.Plant.meaning plant.now) source.now target.now (totals_said paper.now) }
 {
     let turned = Turned { below: plant };
@@ -98,7 +98,7 @@ pub(crate) fn weigh_totals<P: Plant>(
     paper: &TotalsPaper,
 ) -> Result<Verdict, TotalsFault>
     requires sized { Sized paper.now }
-    requires source_len { (length source.now ≡ (P.Plant.meaning plant.now).tanks) × (length target.now ≡ (P.Plant.meaning plant.now).tanks) }
+    requires lengths { (length source.now ≡ (P.Plant.meaning plant.now).tanks) × (length target.now ≡ (P.Plant.meaning plant.now).tanks) }
     ensures { result ≡ judged (P.Plant.meaning plant.now) source.now target.now (totals_said paper.now) }
 {
     if let Some(word) = first_closed(plant, paper) {
