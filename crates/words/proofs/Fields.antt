@@ -1,5 +1,6 @@
 -- A field beyond the word's 32 bits.
-use Rattle.std.proofs.Common.{◌≡◌, ℕ, ◌*◌, ◌/◌, ◌%◌, ◌^◌, ◌<◌, ◌≤◌, sym, ap, ◌∙◌, lt_of_lt_of_le, mod-eq_of_lt, arith, pow_mono}
+use Rattle.std.proofs.Common.{◌≡◌, ℕ, Option, Some, None, ◌*◌, ◌/◌, ◌%◌, ◌^◌, ◌<◌, ◌≤◌, sym, ap, ◌∙◌, lt_of_lt_of_le, mod-eq_of_lt, arith, pow_mono}
+use Rattle.std.specs.Option.{SomeIff, unwrap_or}
 use native.Mathlib.Nat.{div-eq_of_lt}
 use Rattle.std.proofs.lemmas.Nat.{one_shl, shr_le}
 use Rattle.words.specs.Words.{field}
@@ -15,3 +16,8 @@ wide w low width h small e k = e ∙ sym (mod-eq_of_lt (lt_of_lt_of_le below (po
   where
     below : w / 2 ^ low < 2 ^ 32
     below = omega (arith, shr_le w low)
+
+-- the shift of a 32-bit word, where one by 32 or more gives 0
+pub shifted : (o : Option ℕ) (w low : ℕ) → w < 2 ^ 32 → SomeIff o (low < 32) (w / 2 ^ low) → unwrap_or o 0 ≡ w / 2 ^ low
+shifted (Some h) w low small s = s.1
+shifted None w low small s = sym (beyond w low small (omega (arith, s)))

@@ -1,10 +1,13 @@
 // Why a paper is refused. The upper fault carries the lower one whole.
-ghost use Rattle.std.specs.Prelude.{◌≡◌};
+ghost use Rattle.std.specs.Prelude.{◌≡◌, Some};
 ghost use Rattle.words.specs.Faults.{of_words, of_paper, counted};
+ghost use Rattle.words.specs.Shown.{part_name, refusal_text};
 ghost use Rattle.words.specs.declared.faults.PaperFault.TheVariants.{Words};
 
+use std::fmt;
+
 // The part of the program in which a refusal comes.
-#[derive(Clone, Copy, Debug, PartialEq)]
+#[derive(Clone, Copy, Debug, PartialEq, Eq)]
 pub enum Part {
     Question,
     Words,
@@ -12,16 +15,42 @@ pub enum Part {
     Weighing,
 }
 
+impl fmt::Display for Part {
+    ghost output = { λ part. Some (part_name part) };
+
+    fn fmt<W: fmt::Write>(&self, f: &mut fmt::Formatter<W>) -> fmt::Result {
+        f.write_str(match self {
+            Part::Question => "QUESTION",
+            Part::Words => "WORDS",
+            Part::Paper => "PAPER",
+            Part::Weighing => "WEIGHING",
+        })
+    }
+}
+
 // What a refusal names: its number, its place, and the part of the program.
-#[derive(Clone, Copy, Debug, PartialEq)]
+#[derive(Clone, Copy, Debug, PartialEq, Eq)]
 pub struct Refusal {
     pub number: u32,
     pub place: usize,
     pub part: Part,
 }
 
+impl fmt::Display for Refusal {
+    ghost output = { λ refusal. Some (refusal_text refusal) };
+
+    fn fmt<W: fmt::Write>(&self, f: &mut fmt::Formatter<W>) -> fmt::Result {
+        let Refusal {
+            number,
+            place,
+            part,
+        } = *self;
+        write!(f, "REFUSED {number} AT {place} IN {part}")
+    }
+}
+
 // A run of bytes that is no run of words: broken in a word, empty, or too long. Each but the empty one has its count of whole words.
-#[derive(Clone, Copy, Debug, PartialEq)]
+#[derive(Clone, Copy, Debug, PartialEq, Eq)]
 pub enum WordFault {
     Ragged(usize),
     Empty,
@@ -30,7 +59,7 @@ pub enum WordFault {
 
 // A word that cannot stand where it does, by its place: its kind cannot come, a bit that no field names is one,
 // a field is beyond its limit, it does not rise, or it is one case or line too many. Or, at the end of the paper, matches are still due.
-#[derive(Clone, Copy, Debug, PartialEq)]
+#[derive(Clone, Copy, Debug, PartialEq, Eq)]
 pub enum PaperFault {
     Words(WordFault),
     Kind(usize),
@@ -49,11 +78,11 @@ impl From<WordFault> for PaperFault {
     }
 }
 
-impl WordFault {
-    pub fn refusal(self) -> Refusal
-        ensures { result ≡ of_words self }
-    {
-        let (number, place) = match self {
+impl From<WordFault> for Refusal {
+    ghost from_gives = { λ x y. y ≡ of_words x };
+
+    fn from(fault: WordFault) -> Refusal {
+        let (number, place) = match fault {
             WordFault::Ragged(words) => (1, words),
             WordFault::Empty => (2, 0),
             WordFault::Long(words) => (3, words),
@@ -66,12 +95,12 @@ impl WordFault {
     }
 }
 
-impl PaperFault {
-    pub fn refusal(self) -> Refusal
-        ensures { result ≡ of_paper self }
-    {
-        let (number, place) = match self {
-            PaperFault::Words(fault) => return fault.refusal(),
+impl From<PaperFault> for Refusal {
+    ghost from_gives = { λ x y. y ≡ of_paper x };
+
+    fn from(fault: PaperFault) -> Refusal {
+        let (number, place) = match fault {
+            PaperFault::Words(fault) => return Refusal::from(fault),
             PaperFault::Kind(word) => (4, word),
             PaperFault::Due(words) => (5, words),
             PaperFault::Unnamed(word) => (6, word),

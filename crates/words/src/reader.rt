@@ -1,9 +1,51 @@
 // A reader stands over a paper's bytes and keeps its place.
-ghost use Rattle.std.specs.Prelude.{◌*◌, ◌≤◌, length};
+ghost use Rattle.std.specs.Prelude.{◌≡◌, ◌+◌, ◌*◌, ◌≤◌, [], ◌∷◌, length, MatchOption, ⊤};
+
+use crate::word::{self, Word};
 
 #[derive(Drop)]
 pub struct Reader<'a> {
     pub(crate) bytes: &'a [u8],
     pub(crate) at: usize,
     ghost inside: { 4 * at ≤ length bytes.now },
+}
+
+impl<'a> Reader<'a> {
+    // It starts at the first word.
+    pub fn new(bytes: &'a [u8]) -> Self
+        ensures at { result.at ≡ 0 }
+        ensures bytes { result.bytes.now ≡ bytes.now }
+    {
+        Reader { bytes, at: 0 }
+    }
+
+    // How many words have been taken.
+    pub fn place(&self) -> usize
+        ensures { result ≡ self.now.at }
+    {
+        self.at
+    }
+}
+
+// It takes one word after another; at the end it stays.
+impl Iterator for Reader<'_> {
+    ghost use Rattle.std.specs.Iterator.{YieldsFirst, item_count, MakesProgress};
+    ghost use Rattle.words.specs.Left.{left, to_come};
+
+    type Item = Word;
+
+    ghost next_gives = { YieldsFirst to_come };
+
+    ghost remaining = { item_count to_come };
+
+    fn next(&mut self) -> Option<Word>
+        ensures steps { YieldsFirst to_come self.old result self.new }
+        ensures goes { MakesProgress (λ _. ⊤) (item_count to_come) self.old result self.new }
+        ensures same { self.new.bytes.now ≡ self.old.bytes.now }
+        ensures cases { MatchOption result ((left self.old ≡ []) × (self.new.at ≡ self.old.at)) (λ w. (left self.old ≡ w.bits ∷ left self.new) × (w.place ≡ self.old.at) × (self.new.at ≡ self.old.at + 1)) }
+    {
+        let word = word::word_at(self.bytes, self.at)?;
+        self.at += 1;
+        Some(word)
+    }
 }

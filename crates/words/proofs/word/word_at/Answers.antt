@@ -1,9 +1,11 @@
-use Rattle.std.proofs.Common.{sym, rules}
+use Rattle.std.proofs.Common.{◌-◌, length, take, drop, sym, ap, ◌∙◌}
+use Rattle.std.specs.Option.{option_map}
+use Rattle.words.specs.Words.{words}
 use Rattle.words.proofs.Laws.{first_past, first_here}
 use Rattle.words.proofs.word.word_at.Goals as goal
 
-pub returns-then-k-bytes : goal.returns-then-k-bytes
-returns-then-k-bytes c = search (rules, first_past)
+pub returns-then-place-bytes : goal.returns-then-place-bytes
+returns-then-place-bytes c = sym (ap (option_map _) (first_past c.args.place c.args.bytes.now c.if-place-bytes.true))
 
-pub returns-in-Some : goal.returns-in-Some
-returns-in-Some c = sym (first_here c.args.k c.args.bytes.now _ _ c.in-Some.ensures)
+pub returns : goal.returns
+returns c = sym (ap (option_map _) (first_here c.args.place c.args.bytes.now c.in_ok-bits.bits _ c.in_ok-bits.ensures))

@@ -1,0 +1,39 @@
+-- The word at a place, and the words that a reader has yet to read.
+use Rattle.std.proofs.Common.{◌≡◌, ℕ, ◌+◌, ◌*◌, ◌≤◌, List, [], ◌∷◌, length, drop, Some, None, Option, sym, refl, ap, ◌∙◌, arith}
+use Rattle.std.specs.Option.{option_map}
+use Rattle.words.specs.declared.word.Word.{Word}
+use Rattle.words.specs.Words.{words, first}
+use Rattle.words.specs.Placed.{word_at, placed}
+use Rattle.words.proofs.Laws.{here, here_inside}
+
+-- what a word that was read at k says of the words
+pub record Reads (k : ℕ) (bs : List ℕ) (w : Word) : Type 0 where
+  pub inside : 4 * (k + 1) ≤ length bs
+  pub at : w.place ≡ k
+  pub left : drop k (words bs) ≡ w.bits ∷ drop (k + 1) (words bs)
+
+-- the same of the words from k on
+placed_first : (k : ℕ) (vs : List ℕ) (w : Word) → ◌≡◌ {A = Option Word} (Some w) (option_map (λ v. record { place = k; bits = v }) (first vs)) → (Some w.bits ≡ first vs) × (w.place ≡ k)
+placed_first k [] w e = absurd (let z : ◌≡◌ {A = ℕ} 0 1 = cc in omega arith)
+placed_first k (v ∷ vs) w e = let z : ◌≡◌ {A = Word} w (record { place = k; bits = v }) = cc in (ap (λ x. Some x.bits) z, ap (λ x. x.place) z)
+
+pub reads : (k : ℕ) (bs : List ℕ) (w : Word) → Some w ≡ word_at k (words bs) → Reads k bs w
+reads k bs w e =
+    let t = placed_first k (drop k (words bs)) w e in
+    record { inside = here_inside k bs w.bits t.0; at = t.1; left = here k bs w.bits t.0 }
+
+pub none_left : (k : ℕ) (ws : List ℕ) → None ≡ word_at k ws → drop k ws ≡ []
+none_left k ws e = go (drop k ws) e
+  where
+    go : (vs : List ℕ) → ◌≡◌ {A = Option Word} None (option_map (λ v. record { place = k; bits = v }) (first vs)) → vs ≡ []
+    go [] e = refl
+    go (v ∷ vs) e = absurd (let z : ◌≡◌ {A = ℕ} 0 1 = cc in omega arith)
+
+same_word : (k : ℕ) (w : Word) → w.place ≡ k → ◌≡◌ {A = Word} w (record { place = k; bits = w.bits })
+same_word k w e = ap (λ p. record { place = p; bits = w.bits }) e
+
+-- the word that was read comes first among those to come
+pub comes_first : (k : ℕ) (bs : List ℕ) (w : Word) → Some w ≡ word_at k (words bs) → placed k (drop k (words bs)) ≡ w ∷ placed (k + 1) (drop (k + 1) (words bs))
+comes_first k bs w e =
+    let r = reads k bs w e in
+    ap (placed k) r.left ∙ ap (λ v. v ∷ placed (k + 1) (drop (k + 1) (words bs))) (sym (same_word k w r.at))
