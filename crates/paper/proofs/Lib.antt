@@ -1,10 +1,12 @@
 pub mod Steps
+pub mod Runs
 pub mod Lines
 pub mod PlantSteps
 pub mod Rises
 pub mod PlantExact
 pub mod TotalsSteps
 pub mod TotalsExact
+pub mod Chunks
 pub mod Searching
 pub mod Making
 pub mod Firsts

@@ -17,7 +17,7 @@ use Rattle.paper.specs.Arcs.{PlantDocument, plant_document, plant_of}
 use Rattle.paper.specs.PlantForm.{plant_step, plant_form, plant_read, plant_counts, plant_made}
 use Rattle.paper.specs.Plants.{Rises, Sided, arcs_plant}
 use Rattle.paper.proofs.Steps.{through}
-use Rattle.paper.proofs.PlantSteps.{arc_taken, headed, ordered}
+use Rattle.paper.proofs.PlantSteps.{arcs, arc_taken, headed, ordered}
 use Rattle.paper.proofs.Rises.{opened, never_head}
 
 -- the plant without counts and arcs is the empty plant
@@ -38,10 +38,10 @@ nothing ws e = ap (λ vs. arcs_plant 0 0 vs) e ∙ shut
     }
 
 -- every arc of a good paper is an intake or an outlet
-sided_run : (tanks valves least at : ℕ) (ws : List ℕ) (s : PlantForm) → run plant_step (Arcs tanks valves least) at ws ≡ Ok s → Sided ws
+sided_run : (tanks valves least at : ℕ) (ws : List ℕ) (s : PlantForm) → run plant_step (arcs tanks valves least) at ws ≡ Ok s → Sided ws
 sided_run tanks valves least at [] s p i h = absurd (omega arith)
 sided_run tanks valves least at (w ∷ ws) s p zero h =
-    let t = through (plant_step (Arcs tanks valves least) at w) _ _ p in
+    let t = through (plant_step (arcs tanks valves least) at w) _ _ p in
     let k = (arc_taken tanks valves least at w t.0 t.1).0.kind_is in
     (⊎_elim (λ (e : kind w ≡ 2). omega arith) (λ (e : kind w ≡ 3). omega arith) k, ⊎_elim (λ (e : kind w ≡ 2). omega arith) (λ (e : kind w ≡ 3). omega arith) k)
 sided_run tanks valves least at (w ∷ ws) s p (suc i) h =
@@ -52,7 +52,7 @@ sided [] s p i h = absurd (omega arith)
 sided (w ∷ ws) s p i h = sided_run (field w 7 7) (field w 0 7) 0 1 ws s (headed w ws s p).1 i h
 
 -- the counts that the form comes to are those of the document
-pub form_counts : (bs : List ℕ) (tanks valves least : ℕ) → plant_form bs ≡ Ok (Arcs tanks valves least) → plant_counts (plant_read bs) ≡ Ok (record { tanks = tanks; valves = valves })
+pub form_counts : (bs : List ℕ) (tanks valves least : ℕ) → plant_form bs ≡ Ok (arcs tanks valves least) → plant_counts (plant_read bs) ≡ Ok (record { tanks = tanks; valves = valves })
 form_counts bs tanks valves least p =
     ap (λ f. plant_counts (onward f (λ _. Ok (plant_document (words bs))))) p
     ∙ ap (λ d. Ok (record { tanks = d.tanks; valves = d.valves })) (opened bs tanks valves least p).says
@@ -66,7 +66,7 @@ pub record Good (counts : Counts) (bs : List ℕ) : Type 0 where
   pub rises : Rises (words (take (length bs - 4) (drop 4 bs)))
   pub made : arcs_plant counts.tanks counts.valves (words (take (length bs - 4) (drop 4 bs))) ≡ plant_made (plant_read bs)
 
-good_form : (bs : List ℕ) (tanks valves least : ℕ) → plant_form bs ≡ Ok (Arcs tanks valves least) → Good (record { tanks = tanks; valves = valves }) bs
+good_form : (bs : List ℕ) (tanks valves least : ℕ) → plant_form bs ≡ Ok (arcs tanks valves least) → Good (record { tanks = tanks; valves = valves }) bs
 good_form bs tanks valves least p =
     let o = opened bs tanks valves least p in
     let t = through (raised Words (counted most_plant_words bs)) _ _ p in
@@ -76,7 +76,7 @@ good_form bs tanks valves least p =
       four = four;
       few_tanks = o.few_tanks;
       few_valves = o.few_valves;
-      sided = subst Sided tail (sided (words bs) (Arcs tanks valves least) t.2);
+      sided = subst Sided tail (sided (words bs) (arcs tanks valves least) t.2);
       rises = subst Rises tail o.rise;
       made =
           ap (λ ws. arcs_plant tanks valves ws) (sym tail)
@@ -91,10 +91,10 @@ good bs counts p = by (plant_form bs) refl
         let z : Ok counts ≡ Err e = p ∙ ap (λ f. plant_counts (onward f (λ _. Ok (plant_document (words bs))))) q in
         absurd (let y : ◌≡◌ {A = ℕ} 0 1 = cc in omega arith)
     by (Ok Head) q = absurd (never_head bs q)
-    by (Ok (Arcs tanks valves least)) q =
-        let z : Ok counts ≡ Ok (record { tanks = tanks; valves = valves }) = p ∙ form_counts bs tanks valves least q in
-        let e : counts ≡ record { tanks = tanks; valves = valves } = cc in
-        subst (λ c. Good c bs) (sym e) (good_form bs tanks valves least q)
+    by (Ok (Arcs k least)) q =
+        let z : Ok counts ≡ Ok k = p ∙ form_counts bs k.tanks k.valves least q in
+        let e : counts ≡ k = cc in
+        subst (λ c. Good c bs) (sym e) (good_form bs k.tanks k.valves least q)
 
 -- a bad paper makes the empty plant
 pub bad : (bs : List ℕ) (e : PaperFault) → Err e ≡ plant_counts (plant_read bs) → plant_made (plant_read bs) ≡ empty

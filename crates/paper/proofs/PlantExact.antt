@@ -12,7 +12,7 @@ use Rattle.paper.specs.PlantForm.{plant_step}
 use Rattle.paper.specs.Inverse.{PlantPapersAreExact}
 use Rattle.paper.proofs.Steps.{Legible, legible_read, read_formed}
 use Rattle.paper.proofs.Lines.{Lines, lines_small, lines_say, lines_run, lines_read}
-use Rattle.paper.proofs.PlantSteps.{arc_taken, takes_head, takes_arc, headed}
+use Rattle.paper.proofs.PlantSteps.{arcs, arc_taken, takes_head, takes_arc, headed}
 
 -- the fields of a word that is put together of an arc's parts
 record Parts (k v t x w : ℕ) : Type 0 where
@@ -75,7 +75,7 @@ module _ (tanks valves : ℕ) (few_tanks : tanks ≤ most_tanks) (few_valves : v
       let same : arc_of (arc_word a) ≡ record { gives = a.gives; valve = a.valve; tank = a.tank; weight = a.weight } = cc in
       same
 
-  takes : (least at : ℕ) (a : Arc) → ArcFits tanks valves a → least ≤ arc_key a → plant_step (Arcs tanks valves least) at (arc_word a) ≡ Ok (Arcs tanks valves (suc (arc_key a)))
+  takes : (least at : ℕ) (a : Arc) → ArcFits tanks valves a → least ≤ arc_key a → plant_step (arcs tanks valves least) at (arc_word a) ≡ Ok (arcs tanks valves (suc (arc_key a)))
   takes least at a f h =
       let p = parts a f in
       let next : arc_word a / 2 ^ 16 + 1 ≡ suc (arc_key a) = omega (arith, p.key_is) in
@@ -87,9 +87,9 @@ module _ (tanks valves : ℕ) (few_tanks : tanks ≤ most_tanks) (few_valves : v
         some = rw p.weight_is f.some;
         rises = rw p.key_is h;
       })
-      ∙ ap (λ k. Ok (Arcs tanks valves k)) next
+      ∙ ap (λ k. Ok (arcs tanks valves k)) next
 
-  taken : (least at w : ℕ) (s : PlantForm) → plant_step (Arcs tanks valves least) at w ≡ Ok s → ArcFits tanks valves (arc_of w) × (least ≤ arc_key (arc_of w)) × (w ≡ arc_word (arc_of w)) × (s ≡ Arcs tanks valves (suc (arc_key (arc_of w))))
+  taken : (least at w : ℕ) (s : PlantForm) → plant_step (arcs tanks valves least) at w ≡ Ok s → ArcFits tanks valves (arc_of w) × (least ≤ arc_key (arc_of w)) × (w ≡ arc_word (arc_of w)) × (s ≡ arcs tanks valves (suc (arc_key (arc_of w))))
   taken least at w s p =
       let a = arc_taken tanks valves least at w s p in
       let t = a.0 in
@@ -99,10 +99,10 @@ module _ (tanks valves : ℕ) (few_tanks : tanks ≤ most_tanks) (few_valves : v
         record { valve_there = t.valve_there; tank_there = t.tank_there; some = t.some; few = omega arith },
         omega (arith, t.rises, key),
         taken_apart _ w k t.plain,
-        a.1 ∙ ap (λ n. Arcs tanks valves n) next,
+        a.1 ∙ ap (λ n. arcs tanks valves n) next,
       )
 
-  arc_lines : Lines plant_step (Arcs tanks valves) arc_of arc_word arc_key (ArcFits tanks valves) RisingArcs
+  arc_lines : Lines plant_step (arcs tanks valves) arc_of arc_word arc_key (ArcFits tanks valves) RisingArcs
   arc_lines = record {
     none = λ least. tt;
     more = λ least a more h k. (h, k);
@@ -134,7 +134,7 @@ written d f =
     let r = lines_run lines 0 1 d.arcs f.arcs_fit f.arcs_rise in
     let t = p.tanks_are in
     let v = p.valves_are in
-    let h : plant_step Head 0 (plant_head d) ≡ Ok (Arcs (field (plant_head d) 7 7) (field (plant_head d) 0 7) 0) =
+    let h : plant_step Head 0 (plant_head d) ≡ Ok (arcs (field (plant_head d) 7 7) (field (plant_head d) 0 7) 0) =
     takes_head 0 (plant_head d) (record {
       kind_is = p.kind_is;
       plain = p.plain;

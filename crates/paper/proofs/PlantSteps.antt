@@ -9,6 +9,9 @@ use Rattle.paper.specs.Runs.{run}
 use Rattle.paper.specs.PlantForm.{plant_step}
 use Rattle.paper.proofs.Steps.{through}
 
+abbrev pub arcs : ℕ → ℕ → ℕ → PlantForm
+arcs tanks valves least = Arcs (record { tanks = tanks; valves = valves }) least
+
 pub record HeadWord (w : ℕ) : Type 0 where
   pub kind_is : kind w ≡ 1
   pub plain : field w 14 14 ≡ 0
@@ -25,7 +28,7 @@ pub record ArcWord (tanks valves least w : ℕ) : Type 0 where
   pub some : 1 ≤ field w 0 10
   pub rises : least ≤ w / 2 ^ 16
 
-pub head_taken : (at w : ℕ) (s : PlantForm) → plant_step Head at w ≡ Ok s → HeadWord w × (s ≡ Arcs (field w 7 7) (field w 0 7) 0)
+pub head_taken : (at w : ℕ) (s : PlantForm) → plant_step Head at w ≡ Ok s → HeadWord w × (s ≡ arcs (field w 7 7) (field w 0 7) 0)
 head_taken at w s p = (
   record {
     kind_is = grind (arith, nat_tests);
@@ -38,7 +41,7 @@ head_taken at w s p = (
   grind (arith, nat_tests),
 )
 
-pub arc_taken : (tanks valves least at w : ℕ) (s : PlantForm) → plant_step (Arcs tanks valves least) at w ≡ Ok s → ArcWord tanks valves least w × (s ≡ Arcs tanks valves (w / 2 ^ 16 + 1))
+pub arc_taken : (tanks valves least at w : ℕ) (s : PlantForm) → plant_step (arcs tanks valves least) at w ≡ Ok s → ArcWord tanks valves least w × (s ≡ arcs tanks valves (w / 2 ^ 16 + 1))
 arc_taken tanks valves least at w s p = (
   record {
     kind_is = grind (arith, nat_tests);
@@ -51,22 +54,22 @@ arc_taken tanks valves least at w s p = (
   grind (arith, nat_tests),
 )
 
-pub takes_head : (at w : ℕ) → HeadWord w → plant_step Head at w ≡ Ok (Arcs (field w 7 7) (field w 0 7) 0)
+pub takes_head : (at w : ℕ) → HeadWord w → plant_step Head at w ≡ Ok (arcs (field w 7 7) (field w 0 7) 0)
 takes_head at w h = grind (arith, nat_tests)
 
-pub takes_arc : (tanks valves least at w : ℕ) → ArcWord tanks valves least w → plant_step (Arcs tanks valves least) at w ≡ Ok (Arcs tanks valves (w / 2 ^ 16 + 1))
+pub takes_arc : (tanks valves least at w : ℕ) → ArcWord tanks valves least w → plant_step (arcs tanks valves least) at w ≡ Ok (arcs tanks valves (w / 2 ^ 16 + 1))
 takes_arc tanks valves least at w h = grind (arith, nat_tests)
 
 -- the head is within the limits, and the words after it are arcs
-pub headed : (h : ℕ) (ws : List ℕ) (s : PlantForm) → run plant_step Head 0 (h ∷ ws) ≡ Ok s → HeadWord h × (run plant_step (Arcs (field h 7 7) (field h 0 7) 0) 1 ws ≡ Ok s)
+pub headed : (h : ℕ) (ws : List ℕ) (s : PlantForm) → run plant_step Head 0 (h ∷ ws) ≡ Ok s → HeadWord h × (run plant_step (arcs (field h 7 7) (field h 0 7) 0) 1 ws ≡ Ok s)
 headed h ws s p =
     let a = through (plant_step Head 0 h) _ _ p in
     let b = head_taken 0 h a.0 a.1 in
     (b.0, rw b.1 at a.2)
 
 -- the first word's place in the order, and the run of the words after it
-pub ordered : (tanks valves least at w : ℕ) (ws : List ℕ) (s : PlantForm) → run plant_step (Arcs tanks valves least) at (w ∷ ws) ≡ Ok s → (least ≤ w / 2 ^ 16) × (run plant_step (Arcs tanks valves (w / 2 ^ 16 + 1)) (at + 1) ws ≡ Ok s)
+pub ordered : (tanks valves least at w : ℕ) (ws : List ℕ) (s : PlantForm) → run plant_step (arcs tanks valves least) at (w ∷ ws) ≡ Ok s → (least ≤ w / 2 ^ 16) × (run plant_step (arcs tanks valves (w / 2 ^ 16 + 1)) (at + 1) ws ≡ Ok s)
 ordered tanks valves least at w ws s p =
-    let a = through (plant_step (Arcs tanks valves least) at w) _ _ p in
+    let a = through (plant_step (arcs tanks valves least) at w) _ _ p in
     let b = arc_taken tanks valves least at w a.0 a.1 in
     (b.0.rises, rw b.1 at a.2)

@@ -1,8 +1,13 @@
 -- A search for an arc by its kind, valve and tank, and the weight that it finds.
-use Rattle.std.proofs.Common.{◌≡◌, ℕ, zero, suc, ◌+◌, ◌*◌, ◌/◌, ◌^◌, ◌<◌, ◌≤◌, Bool, true, false, cond, ◌&&◌, eqb, ltb, List, [], ◌∷◌, map, length, get_or, Some, None, Option, sym, refl, ap, ◌∙◌, ⊎_elim, arith}
-use Rattle.std.proofs.lemmas.Bool.{eq-eqb, ne_eqb, cond-true, cond-false, cases_eq, cases_order, and_from, lt-ltb}
+use Rattle.std.proofs.Common.{◌≡◌, ℕ, zero, suc, ◌+◌, ◌*◌, ◌/◌, ◌^◌, ◌<◌, ◌≤◌, Bool, true, false, cond, ◌&&◌, eqb, ltb, List, [], ◌∷◌, map, length, get_or, drop, Some, None, Option, sym, refl, ap, ◌∙◌, ⊎_elim, arith}
+use Rattle.std.proofs.lemmas.Bool.{eqb-true, eqb-false, eq-eqb, ne_eqb, cond-true, cond-false, cases_eq, cases_order, and_from, lt-ltb}
 use Rattle.std.proofs.lemmas.Bool.Decides.{nat_tests}
-use Rattle.words.specs.Words.{kind, field}
+use Rattle.std.specs.Option.{option_map}
+use Rattle.words.specs.declared.word.Word.{Word}
+use Rattle.words.specs.Words.{kind, field, first}
+use Rattle.words.specs.Placed.{word_at}
+use Rattle.words.proofs.Laws.{read_some, read_none}
+use Rattle.words.proofs.Options.{option_filter}
 use Rattle.paper.specs.Arcs.{arc_kind, arc_of, sits, weight_in}
 use Rattle.paper.specs.Plants.{Rises, Sided, find_arc}
 
@@ -68,3 +73,14 @@ weighs_found gives t r tanks valves k ws o ht hr few_valves few_tanks s e f =
     ∙ (ap (λ x. found_weight (find_arc ((x * 64 + t) * 64 + r) ws)) e
     ∙ (sym (weight_found gives t r ws (omega arith) (omega arith) s)
     ∙ sym (cond-true (ltb t valves && ltb r tanks) _ 0 (and_from (ltb t valves) (ltb r tanks) (lt-ltb t valves ht) (lt-ltb r tanks hr)))))
+
+-- the word at the place that the search found, if it is the one
+pub found : (key p : ℕ) (ws : List ℕ) → Rises ws → ((i : ℕ) → i < p → get_or ws i 0 / 2 ^ 16 < key) → ((i : ℕ) → p ≤ i → i < length ws → key ≤ get_or ws i 0 / 2 ^ 16) → option_map (λ (w : Word). w.bits) (option_filter (λ w. eqb (w.bits / 2 ^ 16) key) (word_at p ws)) ≡ find_arc key ws
+found key p ws rises before after = at (first (drop p ws)) refl
+  where
+    is : (w : ℕ) (b : Bool) → eqb (w / 2 ^ 16) key ≡ b → (p < length ws) × (get_or ws p 0 ≡ w) → option_map (λ (w : Word). w.bits) (cond b (Some (record { place = p; bits = w })) None) ≡ find_arc key ws
+    is w true e there = sym (found_at key ws p there.0 (λ j h k. omega (arith, before j h)) (ap (λ x. x / 2 ^ 16) there.1 ∙ eqb-true (w / 2 ^ 16) key e) ∙ ap Some there.1)
+    is w false e there = sym (found_none key ws (passed_by key ws p rises before after there.0 (λ k. eqb-false (w / 2 ^ 16) key e (ap (λ x. x / 2 ^ 16) (sym there.1) ∙ k))))
+    at : (o : Option ℕ) → o ≡ first (drop p ws) → option_map (λ (w : Word). w.bits) (option_filter (λ w. eqb (w.bits / 2 ^ 16) key) (option_map (λ w. record { place = p; bits = w }) o)) ≡ find_arc key ws
+    at None e = let past = (read_none p ws e).0 in sym (found_none key ws (λ j h k. omega (arith, before j (omega arith))))
+    at (Some w) e = is w (eqb (w / 2 ^ 16) key) refl (read_some p ws w e)

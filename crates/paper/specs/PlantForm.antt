@@ -19,13 +19,13 @@ plant_step Head at w =
     need (kind w == 1) (Kind at) (
     need (field w 14 14 == 0) (Unnamed at) (
     need (within 1 most_tanks (field w 7 7) && within 1 most_valves (field w 0 7)) (Limit at) (
-    Ok (Arcs (field w 7 7) (field w 0 7) 0))))
-plant_step (Arcs tanks valves least) at w =
+    Ok (Arcs (record { tanks = field w 7 7; valves = field w 0 7 }) 0))))
+plant_step (Arcs counts least) at w =
     need (kind w == 2 || kind w == 3) (Kind at) (
     need (field w 10 6 == 0) (Unnamed at) (
-    need (nat_lt (field w 22 6) valves && (nat_lt (field w 16 6) tanks && nat_le 1 (field w 0 10))) (Limit at) (
+    need (nat_lt (field w 22 6) counts.valves && (nat_lt (field w 16 6) counts.tanks && nat_le 1 (field w 0 10))) (Limit at) (
     need (nat_le least (w / 2 ^ 16)) (Order at) (
-    Ok (Arcs tanks valves (w / 2 ^ 16 + 1))))))
+    Ok (Arcs counts (w / 2 ^ 16 + 1))))))
 
 abbrev pub plant_form : List ℕ → Result PlantForm PaperFault
 plant_form bs = whole plant_step Head most_plant_words bs

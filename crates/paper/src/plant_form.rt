@@ -5,68 +5,55 @@ ghost use Rattle.paper.specs.PlantForm.{plant_step};
 ghost use Rattle.paper.specs.declared.plant_form.PlantForm.TheVariants.{Head, Arcs};
 
 use crate::form::Form;
+use plant::Counts;
 use plant::limits::{MOST_TANKS, MOST_VALVES};
-use words::PaperFault;
-use words::word::{field_of, kind_of};
+use words::{Kind, PaperFault, Word};
 
 // Before the head, or after it: the counts, and the least that the next arc's kind, valve and tank may be.
 #[derive(Clone, Copy, Debug, PartialEq)]
 pub enum PlantForm {
     Head,
-    Arcs {
-        tanks: usize,
-        valves: usize,
-        least: u32,
-    },
+    Arcs { counts: Counts, least: u32 },
 }
 
 // The head gives the counts.
-fn take_head(at: usize, w: u32) -> Result<PlantForm, PaperFault>
-    requires { kind w ≡ 1 }
-    ensures { result ≡ plant_step Head at w }
+fn take_head(word: Word) -> Result<PlantForm, PaperFault>
+    requires { kind word.bits ≡ 1 }
+    ensures { result ≡ plant_step Head word.place word.bits }
 {
-    let tanks = field_of(w, 7, 7) as usize;
-    let valves = field_of(w, 0, 7) as usize;
-    if field_of(w, 14, 14) != 0 {
-        return Err(PaperFault::Unnamed(at));
+    let tanks = word.field(7, 7) as usize;
+    let valves = word.field(0, 7) as usize;
+    if word.field(14, 14) != 0 {
+        return Err(PaperFault::Unnamed(word.place));
     }
     if tanks < 1 || tanks > MOST_TANKS || valves < 1 || valves > MOST_VALVES {
-        return Err(PaperFault::Limit(at));
+        return Err(PaperFault::Limit(word.place));
     }
     Ok(PlantForm::Arcs {
-        tanks,
-        valves,
+        counts: Counts { tanks, valves },
         least: 0,
     })
 }
 
 // An arc lies inside the counts and rises.
-fn take_arc(
-    tanks: usize,
-    valves: usize,
-    least: u32,
-    at: usize,
-    w: u32,
-) -> Result<PlantForm, PaperFault>
-    requires { (kind w == 2 || kind w == 3) ≡ true }
-    ensures { result ≡ plant_step (Arcs tanks valves least) at w }
+fn take_arc(counts: Counts, least: u32, word: Word) -> Result<PlantForm, PaperFault>
+    requires { (kind word.bits == 2 || kind word.bits == 3) ≡ true }
+    ensures { result ≡ plant_step (Arcs counts least) word.place word.bits }
 {
-    let key = w >> 16;
-    if field_of(w, 10, 6) != 0 {
-        return Err(PaperFault::Unnamed(at));
+    let key = word.bits >> 16;
+    let valve = word.field(22, 6) as usize;
+    let tank = word.field(16, 6) as usize;
+    if word.field(10, 6) != 0 {
+        return Err(PaperFault::Unnamed(word.place));
     }
-    if field_of(w, 22, 6) as usize >= valves
-        || field_of(w, 16, 6) as usize >= tanks
-        || field_of(w, 0, 10) < 1
-    {
-        return Err(PaperFault::Limit(at));
+    if valve >= counts.valves || tank >= counts.tanks || word.field(0, 10) < 1 {
+        return Err(PaperFault::Limit(word.place));
     }
     if key < least {
-        return Err(PaperFault::Order(at));
+        return Err(PaperFault::Order(word.place));
     }
     Ok(PlantForm::Arcs {
-        tanks,
-        valves,
+        counts,
         least: key + 1,
     })
 }
@@ -74,18 +61,13 @@ fn take_arc(
 impl Form for PlantForm {
     ghost stepped = { λ s at w. plant_step s at w };
 
-    fn advance(self, at: usize, w: u32) -> Result<PlantForm, PaperFault> {
-        match (self, kind_of(w)) {
-            (PlantForm::Head, 1) => take_head(at, w),
-            (
-                PlantForm::Arcs {
-                    tanks,
-                    valves,
-                    least,
-                },
-                2 | 3,
-            ) => take_arc(tanks, valves, least, at, w),
-            _ => Err(PaperFault::Kind(at)),
+    fn advance(self, word: Word) -> Result<PlantForm, PaperFault> {
+        match (self, word.kind()) {
+            (PlantForm::Head, Some(Kind::Counts)) => take_head(word),
+            (PlantForm::Arcs { counts, least }, Some(Kind::Intake | Kind::Outlet)) => {
+                take_arc(counts, least, word)
+            }
+            _ => Err(PaperFault::Kind(word.place)),
         }
     }
 }

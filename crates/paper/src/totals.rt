@@ -1,17 +1,16 @@
 // What a totals paper says: its divisor, and its totals by a reader that stands past the head.
-ghost use Rattle.std.specs.Prelude.{◌≡◌, ◌^◌, ◌<◌, map, IfOk};
+ghost use Rattle.std.specs.Prelude.{◌≡◌, ◌*◌, ◌^◌, ◌<◌, ◌≤◌, map, length};
 ghost use Rattle.plant.specs.Limits.{most_valves};
 ghost use Rattle.words.specs.Left.{left};
+ghost use Rattle.paper.specs.Limits.{most_evidence_words};
 ghost use Rattle.paper.specs.Totals.{total_of};
 ghost use Rattle.paper.specs.TotalsForm.{totals_read};
-ghost use Rattle.paper.specs.OfTotals.{totals_said, totals_answer, Sized};
 
 use crate::form::check_form;
 use crate::limits::MOST_EVIDENCE_WORDS;
 use crate::totals_form::TotalsForm;
-use crate::totals_paper::TotalsPaper;
-use words::word::{field_of, word_at};
-use words::{PaperFault, Reader};
+use words::word::word_at;
+use words::{PaperFault, Reader, Word};
 
 // A valve and how much it is fired in all.
 #[derive(Clone, Copy, Debug, PartialEq)]
@@ -20,26 +19,34 @@ pub struct Total {
     pub amount: u32,
 }
 
-impl Total {
+impl From<Word> for Total {
+    ghost use Rattle.paper.specs.OfTotals.{Says};
+
+    ghost from_gives = { Says };
+
     // What a total word says.
-    pub fn of_word(w: u32) -> Total
-        ensures valve { result.valve ≡ (total_of w).valve }
-        ensures amount { result.amount ≡ (total_of w).amount }
-        ensures there { result.valve < most_valves }
-        ensures small { result.amount < 2 ^ 20 }
-    {
+    fn from(word: Word) -> Total {
         Total {
-            valve: field_of(w, 22, 6) as usize,
-            amount: field_of(w, 0, 20),
+            valve: word.field(22, 6) as usize,
+            amount: word.field(0, 20),
         }
     }
 }
 
+// A totals paper that has been read without fault, held for reading: it has a head, and few enough words.
+#[derive(Drop)]
+pub struct TotalsPaper<'a> {
+    pub(crate) bytes: &'a [u8],
+    ghost headed: { 4 ≤ length bytes.now },
+    ghost few: { length bytes.now ≤ 4 * most_evidence_words },
+}
+
 impl<'a> TotalsPaper<'a> {
+    ghost use Rattle.paper.specs.OfTotals.{totals_said, totals_answer};
+
     // Reads a paper on a plant with so many valves; it is refused by its first fault.
     pub fn read(bytes: &'a [u8], valves: usize) -> Result<TotalsPaper<'a>, PaperFault>
-        ensures document { totals_answer result ≡ totals_read valves bytes.now }
-        ensures sized { IfOk result Sized }
+        ensures { totals_answer result ≡ totals_read valves bytes.now }
     {
         check_form(TotalsForm::Head { valves }, bytes, MOST_EVIDENCE_WORDS)?;
         Ok(TotalsPaper { bytes })
@@ -49,20 +56,17 @@ impl<'a> TotalsPaper<'a> {
         ensures is { result ≡ (totals_said self.now).divisor }
         ensures small { result < 2 ^ 20 }
     {
-        match word_at(self.bytes, 0) {
-            Some(head) => field_of(head, 0, 20),
-            None => 0,
-        }
+        word_at(self.bytes, 0).map_or(0, |head| head.field(0, 20))
     }
 
     // A reader that stands at the first total, which is word 1.
     pub fn totals(&self) -> Reader<'a>
-        ensures at { Sized self.now → result.at ≡ 1 }
+        ensures at { result.at ≡ 1 }
         ensures bytes { result.bytes.now ≡ self.now.bytes.now }
         ensures totals { map total_of (left result) ≡ (totals_said self.now).totals }
     {
         let mut reader = Reader::new(self.bytes);
-        let _ = reader.next();
+        let _ = reader.take_word();
         reader
     }
 }

@@ -3,6 +3,8 @@ use Rattle.std.proofs.Common.{◌≡◌, ℕ, ◌+◌, ◌*◌, ◌≤◌, List,
 use Rattle.std.specs.Option.{option_map}
 use Rattle.words.specs.declared.word.Word.{Word}
 use Rattle.words.specs.Words.{words, first}
+use Rattle.words.specs.declared.reader.Reader.{Reader}
+use Rattle.words.specs.Left.{to_come}
 use Rattle.words.specs.Placed.{word_at, placed}
 use Rattle.words.proofs.Laws.{here, here_inside}
 
@@ -37,3 +39,7 @@ pub comes_first : (k : ℕ) (bs : List ℕ) (w : Word) → Some w ≡ word_at k 
 comes_first k bs w e =
     let r = reads k bs w e in
     ap (placed k) r.left ∙ ap (λ v. v ∷ placed (k + 1) (drop (k + 1) (words bs))) (sym (same_word k w r.at))
+
+-- a reader that stands at the first word has all of them to come
+pub all_to_come : (r : Reader) (bs : List ℕ) → r.at ≡ 0 → r.bytes.now ≡ bs → to_come r ≡ placed 0 (words bs)
+all_to_come r bs e f = rw (e, f) refl

@@ -5,24 +5,24 @@ ghost use Rattle.words.specs.Kinds.{Names};
 #[derive(Clone, Copy, Debug, PartialEq, Eq)]
 pub enum Kind {
     // the head of a plant paper: how many tanks and valves
-    Counts,
+    Counts = 1,
     // what a valve takes from a tank, and what it gives to one
-    Intake,
-    Outlet,
+    Intake = 2,
+    Outlet = 3,
     // the head of a totals paper, and what one valve is fired in all
-    Divisor,
-    Total,
+    Divisor = 4,
+    Total = 5,
     // a barrier paper's cases and their lines, with the weights of either side
-    Case,
-    Line,
-    Left,
-    Right,
+    Case = 6,
+    Line = 7,
+    Left = 8,
+    Right = 9,
     // its steps and their matches
-    Step,
-    Match,
+    Step = 10,
+    Match = 11,
     // what a tank holds in the source, and in the target
-    Source,
-    Target,
+    Source = 12,
+    Target = 13,
 }
 
 // A number that names no kind.

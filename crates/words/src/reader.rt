@@ -1,5 +1,5 @@
 // A reader stands over a paper's bytes and keeps its place.
-ghost use Rattle.std.specs.Prelude.{◌≡◌, ◌+◌, ◌*◌, ◌≤◌, [], ◌∷◌, length, MatchOption, ⊤};
+ghost use Rattle.std.specs.Prelude.{◌≡◌, ◌+◌, ◌*◌, ◌≤◌, [], ◌∷◌, length, MatchOption};
 
 use crate::word::{self, Word};
 
@@ -11,6 +11,8 @@ pub struct Reader<'a> {
 }
 
 impl<'a> Reader<'a> {
+    ghost use Rattle.words.specs.Left.{left};
+
     // It starts at the first word.
     pub fn new(bytes: &'a [u8]) -> Self
         ensures at { result.at ≡ 0 }
@@ -25,12 +27,22 @@ impl<'a> Reader<'a> {
     {
         self.at
     }
+
+    // The next word, or None at the end, where the reader stays.
+    pub fn take_word(&mut self) -> Option<Word>
+        ensures same { self.new.bytes.now ≡ self.old.bytes.now }
+        ensures cases { MatchOption result ((left self.old ≡ []) × (self.new.at ≡ self.old.at)) (λ w. (left self.old ≡ w.bits ∷ left self.new) × (w.place ≡ self.old.at) × (self.new.at ≡ self.old.at + 1)) }
+    {
+        let word = word::word_at(self.bytes, self.at)?;
+        self.at += 1;
+        Some(word)
+    }
 }
 
-// It takes one word after another; at the end it stays.
+// The words that are left, each with its place.
 impl Iterator for Reader<'_> {
-    ghost use Rattle.std.specs.Iterator.{YieldsFirst, item_count, MakesProgress};
-    ghost use Rattle.words.specs.Left.{left, to_come};
+    ghost use Rattle.std.specs.Iterator.{YieldsFirst, item_count};
+    ghost use Rattle.words.specs.Left.{to_come};
 
     type Item = Word;
 
@@ -38,14 +50,7 @@ impl Iterator for Reader<'_> {
 
     ghost remaining = { item_count to_come };
 
-    fn next(&mut self) -> Option<Word>
-        ensures steps { YieldsFirst to_come self.old result self.new }
-        ensures goes { MakesProgress (λ _. ⊤) (item_count to_come) self.old result self.new }
-        ensures same { self.new.bytes.now ≡ self.old.bytes.now }
-        ensures cases { MatchOption result ((left self.old ≡ []) × (self.new.at ≡ self.old.at)) (λ w. (left self.old ≡ w.bits ∷ left self.new) × (w.place ≡ self.old.at) × (self.new.at ≡ self.old.at + 1)) }
-    {
-        let word = word::word_at(self.bytes, self.at)?;
-        self.at += 1;
-        Some(word)
+    fn next(&mut self) -> Option<Word> {
+        self.take_word()
     }
 }

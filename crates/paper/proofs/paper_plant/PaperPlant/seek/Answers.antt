@@ -1,17 +1,15 @@
-use Rattle.std.proofs.Common.{◌+◌, ◌-◌, ◌/◌, ◌<◌, length, arith}
-use Rattle.words.specs.Words.{words}
-use Rattle.words.proofs.Laws.{length_words}
-use Rattle.paper.proofs.Searching.{below_middle}
+use Rattle.std.proofs.Common.{ltb, true, false, ◌≡◌, sym, subst, rules}
+use Rattle.std.specs.List.Sorted.{IsPartitionedBy, IsPartitionPoint}
+use Rattle.std.proofs.lemmas.List.Sorted.{IsPartitionPoint-from_clause, IsPartitionedBy-ltb}
+use Rattle.paper.proofs.Chunks.{key_of, chunks, rising, sought}
 use Rattle.paper.proofs.paper_plant.PaperPlant.seek.Goals as goal
 
-pub loop-low-init : goal.loop-low-init
-loop-low-init c =
-    let n = length_words c.args.self.now.arcs.now in
-    (omega arith, omega arith, λ i h. absurd (omega arith), λ i h k. absurd (omega arith))
-
-pub loop-low-preserved-then-key_at-key : goal.loop-low-preserved-then-key_at-key
-loop-low-preserved-then-key_at-key c =
-    let n = length_words c.args.self.now.arcs.now in
-    let middle = c.loop-low.low + (c.loop-low.high - c.loop-low.low) / 2 in
-    let inside : middle < length (words c.args.self.now.arcs.now) = omega (arith, c.loop-low.invariant.1) in
-    (omega arith, c.loop-low.invariant.1, below_middle c.args.key (words c.args.self.now.arcs.now) middle c.args.self.now.rises inside (omega (arith, c.key_at.ensures)), c.loop-low.invariant.3)
+pub returns : goal.returns
+returns c =
+    let bs = c.args.self.now.arcs.now in
+    let key = c.args.key in
+    let front = c.as_chunks.ensures.front in
+    let parted = IsPartitionedBy-ltb key_of (chunks bs) key (rising bs c.args.self.now.rises) in
+    let point = IsPartitionPoint-from_clause (λ x. ltb (key_of x) key) c.as_chunks.result.0.now _ c.partition_point.ensures.partitioned (subst (IsPartitionedBy (λ x. ltb (key_of x) key)) (sym front) parted) (λ a r q k. search rules) in
+    let s = sought bs key c.partition_point.result (subst (λ cs. IsPartitionPoint (λ x. ltb (key_of x) key ≡ true) (λ x. ltb (key_of x) key ≡ false) cs c.partition_point.result) front point) (rw front at c.partition_point.ensures.bound) in
+    record { before = s.0; after = s.1 }
