@@ -1,5 +1,0 @@
-pub mod Filling
-pub mod Adding
-pub mod Comparing
-pub mod Multiples
-pub mod Flows
