@@ -1,5 +1,6 @@
 // The weights of one line, tank by tank: its sides, and whether it holds.
-ghost use Rattle.std.specs.Prelude.{◌≡◌, ℕ, ◌≤◌, pos, slice_index_or, unsigned_abs};
+ghost use Rattle.std.specs.Prelude.{◌≡◌, ℕ, ◌*◌, ◌≤◌, pos, slice_index_or, unsigned_abs};
+ghost use Rattle.plant.specs.Limits.{most_tanks};
 ghost use Rattle.plant.specs.Walk.{Marking};
 ghost use Rattle.barriers.specs.Lines.{side};
 ghost use Rattle.lines.specs.Limits.{most_weight_sum};
@@ -26,7 +27,8 @@ impl Weights {
 
     // The sum of weight times amount over so many tanks; a tank beyond the tables adds nothing.
     pub(crate) fn side<const MOST: u32>(&self, amounts: &Table<MOST>, tanks: usize) -> i64
-        ensures { (m : Marking) → Tabulates amounts.now.each m → result ≡ side (λ r. slice_index_or self.now.each r (pos 0)) m tanks }
+        ensures is { (m : Marking) → Tabulates amounts.now.each m → result ≡ side (λ r. slice_index_or self.now.each r (pos 0)) m tanks }
+        ensures small { unsigned_abs result ≤ most_tanks * (most_weight_sum * MOST) }
     {
         let mut sum = 0;
         for (weight, amount) in self.each.iter().zip(&amounts.each).take(tanks) {
