@@ -5,6 +5,8 @@ ghost use Rattle.plant.specs.Walk.{held};
 ghost use Rattle.walks.specs.Rounds.{some_below, greatest};
 ghost use Rattle.starting.specs.Starting.{marked, Tells, fed_by, swept, left_out};
 
+use std::array;
+
 use plant::limits::{MOST_TANKS, MOST_VALVES};
 use plant::{Plant, ValveSet};
 
@@ -12,38 +14,18 @@ use plant::{Plant, ValveSet};
 // so that a valve is judged by its own weights alone.
 type TankSet = [bool; MOST_TANKS];
 
-// What a tank holds. A tank that the filling does not list is empty.
-fn amount(filling: &[u32], tank: usize) -> u32
-    ensures { result ≡ held filling.now tank }
-{
-    if tank < filling.len() {
-        filling[tank]
-    } else {
-        0
-    }
-}
-
-// The tanks that hold something.
+// The tanks that hold something. A tank that the filling does not list is empty.
 fn holding_tanks(filling: &[u32]) -> TankSet
     ensures { (r : ℕ) → r < most_tanks → marked result r ≡ nat_lt 0 (held filling.now r) }
 {
-    let mut filled = [false; MOST_TANKS];
-    for tank in 0..MOST_TANKS {
-        filled[tank] = amount(filling, tank) > 0;
-    }
-    filled
+    array::from_fn(|tank| filling.get(tank).is_some_and(|&amount| amount > 0))
 }
 
 // Whether a valve takes only from filled tanks.
 fn is_fed<P: Plant>(plant: &P, filled: &TankSet, valve: usize) -> bool
     ensures { result ≡ fed_by (P.Plant.meaning plant.now) (marked filled.now) valve }
 {
-    for tank in 0..plant.counts().tanks {
-        if plant.intake(valve, tank) > 0 && !filled[tank] {
-            return false;
-        }
-    }
-    true
+    (0..plant.counts().tanks).all(|tank| plant.intake(valve, tank) == 0 || filled[tank])
 }
 
 // Adds the tanks that a valve gives to.
@@ -96,12 +78,7 @@ pub fn first_left_out<P: Plant>(plant: &P, filling: &[u32], set: &ValveSet) -> O
     ensures { result ≡ left_out (P.Plant.meaning plant.now) (held filling.now) (marked set.now) }
 {
     let start = greatest_start(plant, filling, set);
-    for valve in 0..plant.counts().valves {
-        if set[valve] && !start[valve] {
-            return Some(valve);
-        }
-    }
-    None
+    (0..plant.counts().valves).find(|&valve| set[valve] && !start[valve])
 }
 
 #[cfg(test)]

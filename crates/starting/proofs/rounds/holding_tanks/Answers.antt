@@ -1,10 +1,10 @@
-use Rattle.std.proofs.Common.{◌<◌, ltb, ◌≢◌, length, ap, ◌∙◌, arith, length-set, get_or-set_other, get_or-set_same, below_more}
+use Rattle.std.proofs.Common.{rules, tests, ◌≡◌, ℕ, ◌<◌, ◌≤◌, true, false, not, ◌&&◌, ◌||◌, eqb, ltb, arith, Bool}
+use Rattle.std.proofs.lemmas.Option.{gets}
+use Rattle.std.proofs.lemmas.Grind.{common_steps}
+use Rattle.plant.specs.Walk.{held}
+use Rattle.starting.specs.Starting.{marked}
+use Rattle.starting.proofs.Ranges.{made_at}
 use Rattle.starting.proofs.rounds.holding_tanks.Goals as goal
 
-pub loop-tank-preserved : goal.loop-tank-preserved
-loop-tank-preserved c = (
-  length-set c.loop-tank.filled c.loop-tank.tank (ltb 0 c.amount.result) ∙ c.loop-tank.invariant.0,
-  below_more _ _
-      (λ k h. let ne : k ≢ c.loop-tank.tank = omega arith in rw get_or-set_other (c.loop-tank.invariant.1 k h))
-      (let lt : c.loop-tank.tank < length c.loop-tank.filled = omega arith in rw get_or-set_same (ap (ltb 0) c.amount.ensures)),
-)
+pub returns : goal.returns
+returns c = λ r l. made_at (λ r. ltb 0 (held c.args.filling.now r)) c.from_fn.ensures.items (λ x b q k. search (rules, tests)) r false l
