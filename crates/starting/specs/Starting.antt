@@ -1,9 +1,9 @@
 -- The first valve of a set outside its greatest starting part, and what one round of the code that finds it adds.
-use Rattle.std.specs.Prelude.{◌≡◌, ℕ, zero, suc, ◌<◌, Bool, false, cond, not, ◌&&◌, ◌||◌, List, Some, None, Option, ◌==◌, slice_index_or}
+use Rattle.std.specs.Prelude.{◌≡◌, ℕ, zero, suc, ◌<◌, Bool, false, cond, not, ◌&&◌, ◌||◌, List, Some, None, Option, ◌==◌, slice_index_or, nat_lt}
 use Rattle.std.specs.Option.{option_or}
 use Rattle.plant.specs.Net.{Net}
 use Rattle.plant.specs.Walk.{Marking}
-use Rattle.walks.specs.Rounds.{all_below, filled, next, greatest}
+use Rattle.walks.specs.Rounds.{some_below, all_below, next, greatest}
 
 -- the places of a table that hold true: the set that it stands for
 abbrev pub marked : List Bool → ℕ → Bool
@@ -18,9 +18,9 @@ first_below (suc n) p = option_or (first_below n p) (cond (p n) (Some n) None)
 abbrev pub left_out : Net → Marking → (ℕ → Bool) → Option ℕ
 left_out N m S = first_below N.valves (λ t. S t && not (greatest N m S t))
 
--- of the rounds: a table has, of each tank, whether it is filled once the valves of E run
-abbrev pub Tells : Net → Marking → (ℕ → Bool) → (ℕ → Bool) → Type 0
-Tells N m E F = (r : ℕ) → r < N.tanks → F r ≡ filled N m E r
+-- of the rounds: a table has, of each tank, whether a valve of E gives to it
+abbrev pub Tells : Net → (ℕ → Bool) → (ℕ → Bool) → Type 0
+Tells N E G = (r : ℕ) → r < N.tanks → G r ≡ some_below N.valves (λ u. E u && nat_lt 0 (N.outlet u r))
 
 -- the valve takes only from tanks of the table
 abbrev pub fed_by : Net → (ℕ → Bool) → ℕ → Bool
