@@ -2,12 +2,11 @@
 ghost use Rattle.std.specs.Prelude.{◌≡◌, ℕ, ◌<◌, ◌≤◌, true, false, ◌||◌, ◌==◌, MatchBool};
 ghost use Rattle.plant.specs.Walk.{held};
 ghost use Rattle.walks.specs.Rounds.{next, greatest};
-ghost use Rattle.starting.specs.Starting.{marked, Tells, left_out};
-
-use std::array;
+ghost use Rattle.starting.specs.Starting.{marked, TellsGiven, Within, left_out};
 
 use plant::limits::{MOST_TANKS, MOST_VALVES};
 use plant::{Plant, ValveSet};
+use std::array;
 
 // A set of tanks: the tanks whose place holds true.
 type TankSet = [bool; MOST_TANKS];
@@ -21,15 +20,13 @@ struct Going<'a, P: Plant> {
     set: &'a ValveSet,
     went: ValveSet,
     given: TankSet,
-    ghost told: { Tells (P.Plant.meaning plant.now) (marked went) (marked given) },
-
-    // only valves of the greatest starting part go
-    ghost within: { (t : ℕ) → marked went t ≡ true → (t < (P.Plant.meaning plant.now).valves) × (greatest (P.Plant.meaning plant.now) (held filling.now) (marked set.now) t ≡ true) },
+    ghost told: { TellsGiven (P.Plant.meaning plant.now) (marked went) (marked given) },
+    ghost within: { Within (P.Plant.meaning plant.now) (held filling.now) (marked set.now) (marked went) },
 }
 
 impl<'a, P: Plant> Going<'a, P> {
     // No valve has gone yet.
-    fn new(plant: &'a P, filling: &'a [u32], set: &'a ValveSet) -> Going<'a, P>
+    fn new(plant: &'a P, filling: &'a [u32], set: &'a ValveSet) -> Self
         ensures asked { (result.plant.now ≡ plant.now) × (result.filling.now ≡ filling.now) × (result.set.now ≡ set.now) }
     {
         Going {
@@ -45,7 +42,7 @@ impl<'a, P: Plant> Going<'a, P> {
     // A tank that the filling does not list is empty.
     fn can_go(&self, valve: usize) -> bool
         requires { valve < (P.Plant.meaning self.now.plant.now).valves }
-        ensures { result ≡ next (P.Plant.meaning self.now.plant.now) (held self.now.filling.now) (marked self.now.set.now) (marked self.now.went) valve }
+        ensures { let N = P.Plant.meaning self.now.plant.now in result ≡ next N (held self.now.filling.now) (marked self.now.set.now) (marked self.now.went) valve }
     {
         self.set[valve]
             && (0..self.plant.counts().tanks).all(|tank| {
@@ -55,9 +52,10 @@ impl<'a, P: Plant> Going<'a, P> {
             })
     }
 
+    // Lets a valve go that can.
     fn let_go(&mut self, valve: usize)
         requires inside { valve < (P.Plant.meaning self.old.plant.now).valves }
-        requires next { next (P.Plant.meaning self.old.plant.now) (held self.old.filling.now) (marked self.old.set.now) (marked self.old.went) valve ≡ true }
+        requires can { let N = P.Plant.meaning self.old.plant.now in next N (held self.old.filling.now) (marked self.old.set.now) (marked self.old.went) valve ≡ true }
         ensures went { (t : ℕ) → marked self.new.went t ≡ (marked self.old.went t || t == valve) }
         ensures asked { (self.new.plant ≡ self.old.plant) × (self.new.filling ≡ self.old.filling) × (self.new.set ≡ self.old.set) }
     {
@@ -68,7 +66,7 @@ impl<'a, P: Plant> Going<'a, P> {
     // Lets go, in rising order, each valve that waits and can go: whether any went.
     // What a valve gives counts at once for the valves after it, which spares rounds.
     fn round(&mut self) -> bool
-        ensures all { (t : ℕ) → t < (P.Plant.meaning self.old.plant.now).valves → next (P.Plant.meaning self.old.plant.now) (held self.old.filling.now) (marked self.old.set.now) (marked self.old.went) t ≡ true → marked self.new.went t ≡ true }
+        ensures all { let N = P.Plant.meaning self.old.plant.now in (t : ℕ) → t < N.valves → next N (held self.old.filling.now) (marked self.old.set.now) (marked self.old.went) t ≡ true → marked self.new.went t ≡ true }
         ensures grew { MatchBool result ((t : ℕ) × (marked self.new.went t ≡ true) × (marked self.old.went t ≡ false)) ((t : ℕ) → marked self.new.went t ≡ marked self.old.went t) }
         ensures asked { (self.new.plant ≡ self.old.plant) × (self.new.filling ≡ self.old.filling) × (self.new.set ≡ self.old.set) }
     {
@@ -111,14 +109,14 @@ mod tests {
     use super::*;
     use plant::{Narrowed, RingMain, Turned};
 
+    fn set_of(valves: &[usize]) -> ValveSet {
+        array::from_fn(|valve| valves.contains(&valve))
+    }
+
     // Each valve is fed by the one before it; a valve that the ring does not have never goes.
     #[test]
     fn ring_starts_from_one_tank(rt: HostRuntime) {
-        let mut set = [false; MOST_VALVES];
-        set[0] = true;
-        set[1] = true;
-        set[3] = true;
-        set[9] = true;
+        let set = set_of(&[0, 1, 3, 9]);
         let ring = RingMain::new(4);
         let start = greatest_start(&ring, &[5], &set);
         assert!(rt; start[0] && start[1] && !start[2] && !start[3] && !start[9]);
@@ -129,10 +127,7 @@ mod tests {
     // Turned, each valve is fed by the one after it, so that the rounds go on.
     #[test]
     fn turned_ring_starts_from_its_last_valve(rt: HostRuntime) {
-        let mut set = [false; MOST_VALVES];
-        for valve in 1..4 {
-            set[valve] = true;
-        }
+        let set = set_of(&[1, 2, 3]);
         let turned = Turned {
             below: RingMain::new(4),
         };
@@ -144,8 +139,7 @@ mod tests {
     // What starts is asked of weights alone: a closed valve starts as well.
     #[test]
     fn closed_valve_starts(rt: HostRuntime) {
-        let mut shut = [false; MOST_VALVES];
-        shut[0] = true;
+        let shut = set_of(&[0]);
         let narrowed = Narrowed {
             below: RingMain::new(2),
             shut,

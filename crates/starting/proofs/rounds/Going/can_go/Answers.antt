@@ -1,4 +1,4 @@
-use Rattle.std.proofs.Common.{◌≡◌, ◌||◌, eqb, ltb, refl, ap, sym, ◌∙◌, rules, tests, ℕ, false, true}
+use Rattle.std.proofs.Common.{◌||◌, eqb, ltb, refl, ap, ◌∙◌, rules, tests}
 use Rattle.plant.specs.Walk.{held}
 use Rattle.starting.specs.Starting.{marked}
 use Rattle.walks.proofs.Closure.{all_below_same}

@@ -1,4 +1,4 @@
-use Rattle.std.proofs.Common.{◌≡◌, ◌||◌, ◌<◌, eqb, ltb, refl, ap, sym, ◌∙◌, rules, tests, ℕ, false, true, arith, length}
+use Rattle.std.proofs.Common.{◌||◌, ltb, false, arith, rules, tests}
 use Rattle.plant.specs.Walk.{held}
 use Rattle.starting.specs.Starting.{marked}
 use Rattle.starting.proofs.Ranges.{made_at}
@@ -12,10 +12,12 @@ pub invariant_of-self : goal.invariant_of-self
 invariant_of-self g c =
     let s = c.args.self.now in
     let N = g.P.Plant.meaning s.plant.now in
-    let joins = set_joins s.went c.args.valve (omega (arith, (g.P.Plant.bounded s.plant.now).few_valves)) in
+    let bounded = g.P.Plant.bounded s.plant.now in
+    let joins = set_joins s.went c.args.valve (omega (arith, bounded.few_valves)) in
+    let given = made_at (λ r. marked s.given r || ltb 0 (N.outlet c.args.valve r)) c.from_fn-self.ensures.items (λ x b q k. search (rules, tests)) in
     record {
-      told = tells_joined _ _ c.args.valve joins N c.requires.inside (marked s.given) (marked c.from_fn-self.result) s.told (λ r l. made_at (λ r. marked s.given r || ltb 0 (N.outlet c.args.valve r)) c.from_fn-self.ensures.items (λ x b q k. search (rules, tests)) r false (omega (arith, (g.P.Plant.bounded s.plant.now).few_tanks, c.from_fn-self.ensures.items.long)));
-      within = within_joined N (held s.filling.now) (marked s.set.now) _ _ c.args.valve joins c.requires.inside c.requires.next s.within;
+      told = tells_joined N _ _ c.args.valve joins c.requires.inside _ _ s.told (λ r l. given r false (omega (arith, bounded.few_tanks, c.from_fn-self.ensures.items.long)));
+      within = within_joined N (held s.filling.now) (marked s.set.now) _ _ c.args.valve joins c.requires.inside c.requires.can s.within;
     }
 
 pub returns-clause-went : goal.returns-clause-went

@@ -1,7 +1,5 @@
-use Rattle.std.proofs.Common.{◌≡◌, ◌<◌, sym, ap, subst, inl, inr, add-one, arith}
-use Rattle.plant.specs.Walk.{held}
-use Rattle.starting.specs.Starting.{marked}
-use Rattle.starting.proofs.Sweeps.{Sweeping, sweeping_joined, sweeping_left}
+use Rattle.std.proofs.Common.{sym, inl, inr, add-one}
+use Rattle.starting.proofs.Sweeps.{sweeping_joined, sweeping_left}
 use Rattle.starting.proofs.rounds.Going.round.Goals as goal
 use Rattle.starting.proofs.rounds.Going.round.Goals.{then-not-self-valve+then-can_go, else-not-self-valve, else-not-self-valve-via-then-not-self-valve+else-can_go, else-not-self-valve-via-else-not-self-valve}
 

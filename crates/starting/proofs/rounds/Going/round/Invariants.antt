@@ -6,8 +6,8 @@ use Rattle.starting.proofs.rounds.Going.round.Given as goal
 
 abbrev pub invariant-loop-valve : goal.invariant-loop-valve
 invariant-loop-valve g l =
-  let s = l.initial.self in
-  record {
-    asked : (l.self.plant ≡ s.plant) × (l.self.filling ≡ s.filling) × (l.self.set ≡ s.set);
-    swept : Sweeping (g.P.Plant.meaning s.plant.now) (held s.filling.now) (marked s.set.now) (marked s.went) l.valve (marked l.self.went) l.grew;
-  }
+    let s = l.initial.self in
+    record {
+      asked : (l.self.plant ≡ s.plant) × (l.self.filling ≡ s.filling) × (l.self.set ≡ s.set);
+      swept : Sweeping (g.P.Plant.meaning s.plant.now) (held s.filling.now) (marked s.set.now) (marked s.went) l.valve (marked l.self.went) l.grew;
+    }
