@@ -1,5 +1,5 @@
 use Rattle.std.proofs.Common.{refl, rules, tests}
-use Rattle.lines.proofs.Ranges.{all_over}
+use Rattle.walks.proofs.Ranges.{all_over}
 use Rattle.lines.proofs.matches.Match.are_tanks_good.Goals as goal
 
 pub returns : goal.returns
