@@ -1,7 +1,16 @@
 -- A side as a loop adds it up in 64 bits: each part stays small, and tanks beyond the tables add nothing.
-use Rattle.std.proofs.Common.{◌≡◌, ℕ, zero, suc, ◌+◌, ◌*◌, ◌^◌, ◌<◌, ◌≤◌, min, List, length, get_or, ℤ, pos, negsuc, ◌+ℤ◌, ◌*ℤ◌, nat_abs, sym, refl, ap, ◌∙◌, ⊎_elim, mul-le-mul, arith, w32, w64, SFits, to_z, of_z}
+use Rattle.std.proofs.Common.{◌≡◌, ℕ, zero, suc, ◌+◌, ◌*◌, ◌<◌, ◌≤◌, min, List, length, take, get_or, ℤ, pos, negsuc, ◌+ℤ◌, ◌*ℤ◌, nat_abs, sym, refl, ap, ◌∙◌, ⊎_elim, mul-le-mul, arith, w32, w64, SFits, to_z, of_z}
 use lib.IntN.{zero-*ℤ, +ℤ_idr}
-use Rattle.std.proofs.lemmas.List.{get_or_past}
+use Rattle.std.specs.List.{zip}
+use Rattle.std.specs.Slice.Iter.{iter_rest}
+use Rattle.std.specs.Iterator.Adapters.{take_source, take_count, take_steps, zip_first, zip_second}
+use Rattle.std.specs.declared.iter.Take.{Take}
+use Rattle.std.specs.declared.iter.Zip.{Zip}
+use Rattle.std.specs.declared.slice.Iter.{Iter}
+use Rattle.std.proofs.iter.Yields.{fronts}
+use Rattle.std.proofs.lemmas.Iterator.{YieldsList, YieldsList-from_slice, YieldsList-from_zip, YieldsList-from_take, zips}
+use Rattle.std.proofs.lemmas.List.{get_or_past, get_or_read, get_or-take, length-take}
+use Rattle.std.proofs.lemmas.Slice.Zip.{length-zip, get_or-zip}
 use Rattle.std.proofs.lemmas.Int.{ints}
 use Rattle.std.proofs.lemmas.Bool.{cases_lt}
 use Rattle.plant.specs.Limits.{most_tanks, most_amount}
@@ -10,62 +19,17 @@ use Rattle.barriers.specs.Lines.{side}
 use Rattle.barriers.proofs.Sides.{side_more, side_small, side_same}
 use Rattle.lines.specs.Limits.{most_weight_sum}
 use Rattle.lines.specs.Tables.{Tabulates}
+use denote.Ref.{Bor}
 
--- ---- numbers that went to bits and back
-
-pub fits : (z : ℤ) → nat_abs z < 2 ^ 63 → SFits w64 z
-fits z h = omega (arith, ints)
-
-pub back : (z : ℤ) → nat_abs z < 2 ^ 63 → to_z w64 (of_z w64 z) ≡ z
-back z h = omega (arith, ints)
-
-pub wide : (z : ℤ) → nat_abs z ≤ most_weight_sum → to_z w64 (of_z w64 (to_z w32 (of_z w32 z))) ≡ z
-wide z h = omega (arith, ints)
-
-pub unsigned : (n : ℕ) → n < 2 ^ 63 → to_z w64 n ≡ pos n
-unsigned n h = omega (arith, ints)
+-- a number that went to 64 bits and back
+abbrev pub wide : ℤ → ℤ
+wide z = to_z w64 (of_z w64 z)
 
 pub product_small : (w : ℤ) (m big most : ℕ) → nat_abs w ≤ big → m ≤ most → nat_abs (w *ℤ pos m) ≤ big * most
 product_small (pos w) m big most hw hm = mul-le-mul hw hm
 product_small (negsuc w) m big most hw hm = let h : suc w * m ≤ big * most = mul-le-mul hw hm in omega (arith, ints)
 
--- ---- one tank
-
-module _ (w : ℤ) (a : ℕ) (hw : nat_abs w ≤ most_weight_sum) (ha : a ≤ most_amount) where
-  pub term_is : to_z w64 (of_z w64 (to_z w32 (of_z w32 w))) *ℤ to_z w64 a ≡ w *ℤ pos a
-  term_is = rw (wide w hw, unsigned a (omega arith)) refl
-
-  pub term_small : nat_abs (w *ℤ pos a) ≤ most_weight_sum * most_amount
-  term_small = product_small w a most_weight_sum most_amount hw ha
-
-  pub term_fits : SFits w64 (to_z w64 (of_z w64 (to_z w32 (of_z w32 w))) *ℤ to_z w64 a)
-  term_fits = rw term_is (fits (w *ℤ pos a) (omega (arith, term_small)))
-
-  pub term_back : to_z w64 (of_z w64 (to_z w64 (of_z w64 (to_z w32 (of_z w32 w))) *ℤ to_z w64 a)) ≡ w *ℤ pos a
-  term_back = rw term_is (back (w *ℤ pos a) (omega (arith, term_small)))
-
--- ---- the first tanks
-
-module _ (ws : List ℤ) (xs : List ℕ) (hw : (r : ℕ) → nat_abs (get_or ws r (pos 0)) ≤ most_weight_sum) (ha : (r : ℕ) → get_or xs r 0 ≤ most_amount) where
-  abbrev weight : ℕ → ℤ
-  weight r = get_or ws r (pos 0)
-
-  module _ (n : ℕ) (sum : ℤ) (few : n < most_tanks) (so_far : sum ≡ side weight (held xs) n) where
-    next : sum +ℤ to_z w64 (of_z w64 (to_z w64 (of_z w64 (to_z w32 (of_z w32 (weight n)))) *ℤ to_z w64 (get_or xs n 0))) ≡ side weight (held xs) (n + 1)
-    next = rw (so_far, term_back (weight n) (get_or xs n 0) (hw n) (ha n), side_more weight (held xs) n) refl
-
-    small : nat_abs (side weight (held xs) (n + 1)) < 2 ^ 63
-    small = omega (arith, side_small weight (held xs) most_weight_sum most_amount (n + 1) (λ r l. hw r) (λ r l. ha r))
-
-    pub next_fits : SFits w64 (sum +ℤ to_z w64 (of_z w64 (to_z w64 (of_z w64 (to_z w32 (of_z w32 (weight n)))) *ℤ to_z w64 (get_or xs n 0))))
-    next_fits = rw next (fits _ small)
-
-    pub next_back : to_z w64 (of_z w64 (sum +ℤ to_z w64 (of_z w64 (to_z w64 (of_z w64 (to_z w32 (of_z w32 (weight n)))) *ℤ to_z w64 (get_or xs n 0))))) ≡ side weight (held xs) (n + 1)
-    next_back = rw next (back _ small)
-
--- ---- all of them
-
-pub side_cut : (w : ℕ → ℤ) (m : Marking) (n k : ℕ) → ((r : ℕ) → k ≤ r → w r ≡ pos 0) → side w m (min n k) ≡ side w m n
+side_cut : (w : ℕ → ℤ) (m : Marking) (n k : ℕ) → ((r : ℕ) → k ≤ r → w r ≡ pos 0) → side w m (min n k) ≡ side w m n
 side_cut w m zero k none = let e : min zero k ≡ zero = omega arith in ap (side w m) e
 side_cut w m (suc n) k none =
     ⊎_elim
@@ -73,7 +37,68 @@ side_cut w m (suc n) k none =
     (λ (l : k ≤ n). let e : min (suc n) k ≡ min n k = omega arith in ap (side w m) e ∙ side_cut w m n k none ∙ sym (rw (none n l, zero-*ℤ (pos (m n))) (+ℤ_idr (side w m n))))
     (cases_lt n k)
 
-pub side_all : (ws : List ℤ) (xs : List ℕ) (m : Marking) (n : ℕ) → length ws ≡ most_tanks → Tabulates xs m → side (λ r. get_or ws r (pos 0)) (held xs) (min n most_tanks) ≡ side (λ r. get_or ws r (pos 0)) m n
-side_all ws xs m n long same =
-    side_same _ (held xs) m (min n most_tanks) (λ r l. same r (omega arith))
-    ∙ side_cut (λ r. get_or ws r (pos 0)) m n most_tanks (λ r l. get_or_past ws r (pos 0) (omega arith))
+-- what one turn of the loop gives: a pair whose weight and amount come as the wider numbers f and h
+pub record Turn (ws : List ℤ) (xs : List ℕ) (k : ℕ) (sum f h : ℤ) : Type 0 where
+  pub mul_fits : SFits w64 (wide f *ℤ wide h)
+  pub add_fits : SFits w64 (sum +ℤ wide (wide f *ℤ wide h))
+  pub next : wide (sum +ℤ wide (wide f *ℤ wide h)) ≡ side (λ r. get_or ws r (pos 0)) (held xs) (k + 1)
+
+module _ (ws : List ℤ) (xs : List ℕ) (n : ℕ) (lw : length ws ≡ most_tanks) (lx : length xs ≡ most_tanks) where
+  abbrev weight : ℕ → ℤ
+  weight r = get_or ws r (pos 0)
+
+  -- the pairs that the loop meets
+  pub pairs : {s : Take (Zip (Iter ℤ) (Iter ℕ))} → iter_rest (zip_first (take_source s)) ≡ ws → iter_rest (zip_second (take_source s)) ≡ xs → take_count s ≡ n
+      → YieldsList (take_steps (zips fronts fronts)) (λ (p : Bor ℤ × Bor ℕ). (p.0.now, p.1.now)) s (take n (zip ws xs))
+  pairs es ex en = YieldsList-from_take n (YieldsList-from_zip (YieldsList-from_slice ws es) (YieldsList-from_slice xs ex)) en
+
+  length_pairs : length (take n (zip ws xs)) ≡ min n most_tanks
+  length_pairs = length-take n (zip ws xs) ∙ rw (length-zip ws xs, lw, lx) refl
+
+  pair_at : (k : ℕ) (w : ℤ) (a : ℕ) → (k < length (take n (zip ws xs))) × ◌≡◌ {A = ℤ × ℕ} (w, a) (get_or (take n (zip ws xs)) k (w, a)) → (k < most_tanks) × (w ≡ weight k) × (a ≡ held xs k)
+  pair_at k w a (l, e) =
+      let few : k < min n most_tanks = rw length_pairs at l in
+      let same : ◌≡◌ {A = ℤ × ℕ} (w, a) (get_or ws k w, get_or xs k a) = e ∙ get_or-take n (zip ws xs) k (w, a) (omega arith) ∙ get_or-zip ws xs k (w, a) (omega arith) (omega arith) in
+      (omega arith, get_or_read ws k w (omega arith) (ap (λ (p : ℤ × ℕ). p.0) same) (pos 0), get_or_read xs k a (omega arith) (ap (λ (p : ℤ × ℕ). p.1) same) 0)
+
+  -- after all of them
+  pub side_all : (m : Marking) (k : ℕ) → k ≡ length (take n (zip ws xs)) → Tabulates xs m → side weight (held xs) k ≡ side weight m n
+  side_all m k e same =
+      ap (side weight (held xs)) (e ∙ length_pairs)
+      ∙ side_same weight (held xs) m (min n most_tanks) (λ r l. same r (omega arith))
+      ∙ side_cut weight m n most_tanks (λ r l. get_or_past ws r (pos 0) (omega arith))
+
+  module _ (most : ℕ) (hw : (r : ℕ) → nat_abs (weight r) ≤ most_weight_sum) (hx : (r : ℕ) → get_or xs r 0 ≤ most) where
+    small : (k : ℕ) → k ≤ most_tanks → nat_abs (side weight (held xs) k) ≤ most_tanks * (most_weight_sum * most)
+    small k few =
+        let more : k * (most_weight_sum * most) ≤ most_tanks * (most_weight_sum * most) = mul-le-mul few (omega arith) in
+        omega (arith, side_small weight (held xs) most_weight_sum most k (λ r l. hw r) (λ r l. hx r))
+
+    pub small_all : (k : ℕ) → k ≡ length (take n (zip ws xs)) → nat_abs (side weight (held xs) k) ≤ most_tanks * (most_weight_sum * most)
+    small_all k e = let l = length_pairs in small k (omega arith)
+
+    pub turn : most ≤ most_amount → (k : ℕ) (w f h sum : ℤ) (a : ℕ) → (k < length (take n (zip ws xs))) × ◌≡◌ {A = ℤ × ℕ} (w, a) (get_or (take n (zip ws xs)) k (w, a))
+        → f ≡ to_z w32 (of_z w32 w) → h ≡ pos a → sum ≡ side weight (held xs) k → Turn ws xs k sum f h
+    turn few k w f h sum a at is_f is_h so_far = record { mul_fits = rw term (omega (arith, ints, term_small)); add_fits = rw next (omega (arith, ints, there)); next = rw next (omega (arith, ints, there)) }
+      where
+        pair : (k < most_tanks) × (w ≡ weight k) × (a ≡ held xs k)
+        pair = pair_at k w a at
+
+        term : wide f *ℤ wide h ≡ weight k *ℤ pos (held xs k)
+        term =
+            let big = hw k in
+            let most = hx k in
+            let ef : wide f ≡ weight k = rw (← pair.1) (omega (arith, ints, pair.1)) in
+            let eh : wide h ≡ pos (held xs k) = omega (arith, ints, pair.2) in
+            rw (ef, eh) refl
+
+        term_small : nat_abs (weight k *ℤ pos (held xs k)) ≤ most_weight_sum * most_amount
+        term_small = product_small (weight k) (held xs k) most_weight_sum most_amount (hw k) (omega (arith, hx k))
+
+        next : sum +ℤ wide (wide f *ℤ wide h) ≡ side weight (held xs) (k + 1)
+        next =
+            let back : wide (weight k *ℤ pos (held xs k)) ≡ weight k *ℤ pos (held xs k) = omega (arith, ints, term_small) in
+            rw (term, back, so_far, side_more weight (held xs) k) refl
+
+        there : nat_abs (side weight (held xs) (k + 1)) ≤ most_tanks * (most_weight_sum * most)
+        there = let few = pair.0 in small (k + 1) (omega arith)

@@ -1,5 +1,2 @@
-pub mod Filling
+pub mod Ranges
 pub mod Adding
-pub mod Comparing
-pub mod Multiples
-pub mod Flows

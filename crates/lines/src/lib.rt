@@ -2,14 +2,11 @@
 #![tactic(auto)]
 
 pub mod amounts;
-pub mod columns;
 pub mod line;
 pub mod matches;
-pub mod sides;
 pub mod valve;
 
-pub use amounts::Amounts;
-pub use line::LineWeights;
-pub use matches::{Factors, Way, flow_number, is_good};
-pub use sides::holds;
+pub use amounts::{Amounts, Pair, Table};
+pub use line::{LineWeights, Weights};
+pub use matches::{Factors, Match, Way};
 pub use valve::ValveWeights;

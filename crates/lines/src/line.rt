@@ -1,15 +1,64 @@
-// The weights of one line, tank by tank.
-ghost use Rattle.std.specs.Prelude.{ℕ, ◌≤◌, pos, slice_index_or, unsigned_abs};
+// The weights of one line, tank by tank: its sides, and whether it holds.
+ghost use Rattle.std.specs.Prelude.{◌≡◌, ℕ, ◌*◌, ◌≤◌, pos, slice_index_or, unsigned_abs};
+ghost use Rattle.plant.specs.Limits.{most_tanks};
+ghost use Rattle.plant.specs.Walk.{Marking};
+ghost use Rattle.barriers.specs.Lines.{side};
 ghost use Rattle.lines.specs.Limits.{most_weight_sum};
+ghost use Rattle.lines.specs.Tables.{Tabulates};
 
+use crate::amounts::{Pair, Table};
 use plant::limits::MOST_TANKS;
 
-// Each weight is a sum of the line's words for its tank, so it is small.
+// One side of a line. Each weight is a sum of the line's words for its tank, so it is small.
+#[derive(Clone, Copy)]
+pub struct Weights {
+    pub each: [i32; MOST_TANKS],
+    ghost small: { (r : ℕ) → unsigned_abs (slice_index_or each r (pos 0)) ≤ most_weight_sum },
+}
+
+impl Weights {
+    // The weight of a tank; one beyond the table has none.
+    pub(crate) fn at(&self, tank: usize) -> i32
+        ensures value { result ≡ slice_index_or self.now.each tank (pos 0) }
+        ensures small { unsigned_abs result ≤ most_weight_sum }
+    {
+        self.each.get(tank).copied().unwrap_or(0)
+    }
+
+    // The sum of weight times amount over so many tanks; a tank beyond the tables adds nothing.
+    pub(crate) fn side<const MOST: u32>(&self, amounts: &Table<MOST>, tanks: usize) -> i64
+        ensures is { (m : Marking) → Tabulates amounts.now.each m → result ≡ side (λ r. slice_index_or self.now.each r (pos 0)) m tanks }
+        ensures small { unsigned_abs result ≤ most_tanks * (most_weight_sum * MOST) }
+    {
+        let mut sum = 0;
+        for (weight, amount) in self.each.iter().zip(&amounts.each).take(tanks) {
+            sum += i64::from(*weight) * i64::from(*amount);
+        }
+        sum
+    }
+}
+
 #[derive(Clone, Copy)]
 pub struct LineWeights {
-    pub left: [i32; MOST_TANKS],
-    pub right: [i32; MOST_TANKS],
+    pub left: Weights,
+    pub right: Weights,
     pub strict: bool,
-    ghost left_small: { (r : ℕ) → unsigned_abs (slice_index_or left r (pos 0)) ≤ most_weight_sum },
-    ghost right_small: { (r : ℕ) → unsigned_abs (slice_index_or right r (pos 0)) ≤ most_weight_sum },
+}
+
+impl LineWeights {
+    ghost use Rattle.barriers.specs.Tests.{holds_line?};
+    ghost use Rattle.lines.specs.OfLine.{line_meant};
+
+    // Whether the line holds of a pair of fillings.
+    pub fn holds(&self, pair: &Pair) -> bool
+        ensures { (m m' : Marking) → Tabulates pair.now.source.now.each m → Tabulates pair.now.target.now.each m' → result ≡ holds_line? pair.now.tanks (line_meant self.now) m m' }
+    {
+        let left = self.left.side(pair.source, pair.tanks);
+        let right = self.right.side(pair.target, pair.tanks);
+        if self.strict {
+            left < right
+        } else {
+            left <= right
+        }
+    }
 }

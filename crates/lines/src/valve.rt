@@ -1,15 +1,40 @@
 // What one valve of a plant takes from each tank and gives to it.
-ghost use Rattle.std.specs.Prelude.{ℕ, ◌≤◌, slice_index};
-ghost use Rattle.plant.specs.Limits.{most_tanks, most_weight};
+ghost use Rattle.std.specs.Prelude.{◌≡◌};
+ghost use Rattle.lines.specs.OfValve.{ReadFrom};
 
-use plant::limits::MOST_TANKS;
+use crate::amounts::Table;
+use plant::Plant;
+use std::array;
 
-#[derive(Clone, Copy)]
-pub struct ValveWeights {
+// The largest intake or outlet weight; the plant's specs/Limits.antt has the same number.
+pub const MOST_WEIGHT: u32 = 1023;
+
+// The weights of a valve, read from a plant once.
+#[derive(Drop)]
+pub struct ValveWeights<'a, P: Plant> {
+    pub plant: &'a P,
+    pub valve: usize,
     pub tanks: usize,
-    pub intake: [u32; MOST_TANKS],
-    pub outlet: [u32; MOST_TANKS],
-    ghost few_tanks: { tanks ≤ most_tanks },
-    ghost intake_small: { (r : ℕ) → slice_index intake r ≤ most_weight },
-    ghost outlet_small: { (r : ℕ) → slice_index outlet r ≤ most_weight },
+    pub intake: Table<MOST_WEIGHT>,
+    pub outlet: Table<MOST_WEIGHT>,
+    ghost read: { ReadFrom tanks intake.each outlet.each (P.Plant.meaning plant.now) valve },
+}
+
+impl<'a, P: Plant> ValveWeights<'a, P> {
+    pub fn of_plant(plant: &'a P, valve: usize) -> ValveWeights<'a, P>
+        ensures plant { result.plant.now ≡ plant.now }
+        ensures valve { result.valve ≡ valve }
+    {
+        ValveWeights {
+            plant,
+            valve,
+            tanks: plant.counts().tanks,
+            intake: Table {
+                each: array::from_fn(|tank| u32::from(plant.intake(valve, tank))),
+            },
+            outlet: Table {
+                each: array::from_fn(|tank| u32::from(plant.outlet(valve, tank))),
+            },
+        }
+    }
 }

@@ -1,20 +1,13 @@
-use Rattle.std.proofs.Common.{get_or, pos, ap, ◌∙◌}
-use Rattle.barriers.specs.Lines.{side}
-use Rattle.lines.proofs.Flows.{valve_side_small, flow_back}
+use Rattle.std.proofs.Common.{refl, ◌∙◌, rules, w64, SFits}
+use Rattle.std.proofs.lemmas.Int.{to_z-of_z}
 use Rattle.lines.proofs.matches.balance.Goals as goal
 
-pub difference-requires : goal.difference-requires
-difference-requires c =
-    let valve = c.args.valve.now in
-    record {
-      first = valve_side_small c.args.gains.now valve.outlet valve.tanks c.side_of-given.result c.requires.gains valve.outlet_small valve.few_tanks (record { sfits = c.side_of-given.type_inv }) c.side_of-given.ensures;
-      second = valve_side_small c.args.losses.now valve.intake valve.tanks c.side_of-taken.result c.requires.losses valve.intake_small valve.few_tanks (record { sfits = c.side_of-taken.type_inv }) c.side_of-taken.ensures;
-    }
-
 pub returns : goal.returns
-returns c = λ N t read.
-    flow_back c.args.a c.args.b c.difference.result c.side_of-given.result c.side_of-taken.result _ _
-    (record { sfits = c.difference.type_inv }) (record { sfits = c.side_of-given.type_inv }) (record { sfits = c.side_of-taken.type_inv })
-    c.difference.ensures
-    (c.side_of-given.ensures (N.outlet t) read.outlet ∙ ap (side (λ r. get_or c.args.gains.now r (pos 0)) (N.outlet t)) read.tanks)
-    (c.side_of-taken.ensures (N.intake t) read.intake ∙ ap (side (λ r. get_or c.args.losses.now r (pos 0)) (N.intake t)) read.tanks)
+returns g c =
+    let f : SFits w64 c.difference.result = search rules in
+    let fx : SFits w64 c.side-given.result = search rules in
+    let fy : SFits w64 c.side-taken.result = search rules in
+    let read = c.args.valve.now.read in
+    let x = c.side-given.ensures.is _ read.outlet in
+    let y = c.side-taken.ensures.is _ read.intake in
+    to_z-of_z w64 _ f ∙ c.difference.ensures ∙ rw (to_z-of_z w64 _ fx, to_z-of_z w64 _ fy, x, y, read.tanks) refl

@@ -1,19 +1,17 @@
-use Rattle.std.proofs.Common.{◌≤◌, min, length, ap, arith}
-use Rattle.std.proofs.lemmas.List.{get_or_past}
+use Rattle.std.proofs.Common.{min, arith, rules, lit≤}
 use Rattle.plant.specs.Limits.{most_amount}
 use Rattle.plant.specs.Walk.{held}
 use Rattle.lines.specs.Tables.{Tabulates}
-use Rattle.lines.proofs.Filling.{written_none, written_all}
+use Rattle.lines.proofs.Ranges.{tabulated, tabulated_small}
 use Rattle.lines.proofs.amounts.Amounts.of_filling.Goals as goal
 
-pub loop-tank-init : goal.loop-tank-init
-loop-tank-init c = written_none _
+pub invariant_of-result : goal.invariant_of-result
+invariant_of-result c = record {
+  small = tabulated_small (λ r. min (held c.args.filling.now r) most_amount) c.from_fn.ensures.items (λ r x q k. search rules) _ (λ r. omega arith);
+  most_small = lit≤ tt;
+}
 
--- a filling that ends before the last tank has nothing beyond
 pub returns : goal.returns
 returns c =
-    let all : Tabulates c.loop-tank.amounts (λ r. min (held c.args.filling.now r) most_amount) =
-    written_all _ _ c.loop-tank.tank c.loop-tank.invariant
-    (λ r k l. let past : length c.args.filling.now ≤ r = omega arith in ap (λ n. min n most_amount) (get_or_past c.args.filling.now r 0 past))
-    in
+    let all : Tabulates c.from_fn.result (λ r. min (held c.args.filling.now r) most_amount) = tabulated _ c.from_fn.ensures.items (λ r x q k. search rules) in
     record { all = all; exact = λ small r l. omega (arith, all r l, small r l) }
