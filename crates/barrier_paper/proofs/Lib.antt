@@ -6,9 +6,3 @@ pub mod FrontWords
 pub mod Peeling
 pub mod BarrierRuns
 pub mod BarrierExact
-pub mod Seeking
-pub mod Saying
-pub mod Summing
-pub mod WordKinds
-pub mod Blocks
-pub mod Parts
