@@ -7,7 +7,7 @@ use Rattle.words.specs.Words.{kind}
 use Rattle.barrier_paper.specs.Document.{joined}
 use Rattle.barrier_paper.specs.Windows.{from_nth, before, part, count_kind}
 use Rattle.barrier_paper.proofs.Seeking.{seek_pass, seek_count, seek_found, before_goes}
-use Rattle.barrier_paper.proofs.WordKinds.{Kinds}
+use Rattle.barrier_paper.proofs.WordParts.{Kinds}
 
 -- no kind between the two is k
 abbrev pub Apart : ℕ → ℕ → ℕ → Type 0
