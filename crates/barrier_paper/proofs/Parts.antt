@@ -15,8 +15,7 @@ use Rattle.barrier_paper.specs.Document.{Weight, LineText, CaseText, BarrierDocu
 use Rattle.barrier_paper.specs.Windows.{from_nth, part, count_kind, case_part, line_part, steps_part, before_steps, word_weight, part_weight, part_strict, part_line, line_said}
 use Rattle.barrier_paper.proofs.Seeking.{before_le, seek_found}
 use Rattle.barrier_paper.proofs.Summing.{same_line, said_short}
-use Rattle.barrier_paper.proofs.WordParts.{line_head, line_good, weight_kind, weight_says}
-use Rattle.barrier_paper.proofs.WordKinds.{line_kind, weights_of_line, lines_of_case, cases_kinds, step_says, steps_kinds, words_small}
+use Rattle.barrier_paper.proofs.WordParts.{line_head, line_good, weight_kind, weight_says, weights_of_line, lines_of_case, cases_kinds, step_says, steps_kinds, words_small}
 use Rattle.barrier_paper.proofs.Blocks.{Blocks, Stops, skip, go_on, stop, nth_block, past_blocks, count_none, count_blocks}
 
 -- ---- sums of weight words
@@ -62,7 +61,7 @@ module _ (tanks : ℕ) where
       let lefts = map (weight_word 8) t.lefts in
       let rights = map (weight_word 9) t.rights in
       sums (word_weight 8 head r) (part_weight 8 (lefts ++ rights) r) (part_weight 8 lefts r) (part_weight 8 rights r) (weight_of t.lefts r)
-      (other_weight 8 head r (λ e. omega (arith, line_kind t.strict)))
+      (other_weight 8 head r (λ e. omega (arith, (line_good t.strict).0.kind_is)))
       (append_weight 8 lefts rights r)
       (own_weights 8 t.lefts r h.lefts_fit)
       (other_weights 9 8 t.rights r (λ e. omega arith) h.rights_fit)
@@ -76,7 +75,7 @@ module _ (tanks : ℕ) where
       let lefts = map (weight_word 8) t.lefts in
       let rights = map (weight_word 9) t.rights in
       sums (word_weight 9 head r) (part_weight 9 (lefts ++ rights) r) (part_weight 9 lefts r) (part_weight 9 rights r) (weight_of t.rights r)
-      (other_weight 9 head r (λ e. omega (arith, line_kind t.strict)))
+      (other_weight 9 head r (λ e. omega (arith, (line_good t.strict).0.kind_is)))
       (append_weight 9 lefts rights r)
       (other_weights 8 9 t.lefts r (λ e. omega arith) h.lefts_fit)
       (own_weights 9 t.rights r h.rights_fit)
@@ -96,7 +95,7 @@ module _ (tanks : ℕ) where
     head = λ t. line_head t.strict;
     tail = λ t. map (weight_word 8) t.lefts ++ map (weight_word 9) t.rights;
     made = λ t. refl;
-    head_kind = λ t _. line_kind t.strict;
+    head_kind = λ t _. (line_good t.strict).0.kind_is;
     tail_kinds = weights_of_line tanks;
     no_step = λ j a b e. omega arith;
   }
