@@ -6,9 +6,7 @@ use Rattle.std.proofs.ByRecursion.{All-weaker}
 use Rattle.std.proofs.lemmas.Bool.{eqb-true, eqb-false, not-true, not-false}
 use Rattle.words.specs.Words.{words, kind}
 use Rattle.words.proofs.Laws.{words_take, words_drop}
-use Rattle.dossier.specs.declared.parts.Run.{Run}
-use Rattle.dossier.specs.declared.parts.Run.TheVariants.{Before, Of}
-use Rattle.dossier.specs.Parts.{goes_on, run_of, after, source_kind, target_kind, from_source, from_target}
+use Rattle.dossier.specs.Parts.{before, of_kind, run_of, after, source_kind, target_kind, from_source, from_target}
 use Rattle.dossier.specs.Kinds.{PartsAreTheInput, OpensWith, OpensOtherwise, PartsGoByKind}
 
 -- words that do not go on with a run
@@ -33,42 +31,42 @@ module _ (p : ℕ → Bool) where
       by true e more = rw one-add more
       by false e more = e
 
-module _ (run : Run) (bs : List ℕ) where
-  run_joined : run_of run bs ++ after run bs ≡ bs
-  run_joined = take-append-drop (4 * prefix_len (goes_on run) (words bs)) bs
+module _ (test : ℕ → Bool) (bs : List ℕ) where
+  run_joined : run_of test bs ++ after test bs ≡ bs
+  run_joined = take-append-drop (4 * prefix_len test (words bs)) bs
 
-  run_all : AllByRecursion (λ w. goes_on run w ≡ true) (words (run_of run bs))
-  run_all = subst (AllByRecursion (λ w. goes_on run w ≡ true)) (sym (words_take (prefix_len (goes_on run) (words bs)) bs)) (lead_all (goes_on run) (words bs))
+  run_all : AllByRecursion (λ w. test w ≡ true) (words (run_of test bs))
+  run_all = subst (AllByRecursion (λ w. test w ≡ true)) (sym (words_take (prefix_len test (words bs)) bs)) (lead_all test (words bs))
 
-  run_stops : Stops (goes_on run) (words (after run bs))
-  run_stops = subst (Stops (goes_on run)) (sym (words_drop (prefix_len (goes_on run) (words bs)) bs)) (lead_stops (goes_on run) (words bs))
+  run_stops : Stops test (words (after test bs))
+  run_stops = subst (Stops test) (sym (words_drop (prefix_len test (words bs)) bs)) (lead_stops test (words bs))
 
 pub parts_are_the_input : PartsAreTheInput
 parts_are_the_input bs =
-    ap (λ rest. run_of (Before source_kind) bs ++ rest)
-    (ap (λ rest. run_of (Of source_kind) (from_source bs) ++ rest) (run_joined (Of target_kind) (from_target bs)) ∙ run_joined (Of source_kind) (from_source bs))
-    ∙ run_joined (Before source_kind) bs
+    ap (λ rest. run_of (before source_kind) bs ++ rest)
+    (ap (λ rest. run_of (of_kind source_kind) (from_source bs) ++ rest) (run_joined (of_kind target_kind) (from_target bs)) ∙ run_joined (of_kind source_kind) (from_source bs))
+    ∙ run_joined (before source_kind) bs
 
-opens_with : (k : ℕ) (ws : List ℕ) → Stops (goes_on (Before k)) ws → OpensWith k ws
+opens_with : (k : ℕ) (ws : List ℕ) → Stops (before k) ws → OpensWith k ws
 opens_with k [] s = tt
 opens_with k (w ∷ ws) s = eqb-true (kind w) k (not-false _ s)
 
-opens_otherwise : (k : ℕ) (ws : List ℕ) → Stops (goes_on (Of k)) ws → OpensOtherwise k ws
+opens_otherwise : (k : ℕ) (ws : List ℕ) → Stops (of_kind k) ws → OpensOtherwise k ws
 opens_otherwise k [] s = tt
 opens_otherwise k (w ∷ ws) s = eqb-false (kind w) k s
 
-all_of : (k : ℕ) (ws : List ℕ) → AllByRecursion (λ w. goes_on (Of k) w ≡ true) ws → AllByRecursion (λ w. kind w ≡ k) ws
-all_of k ws = All-weaker (λ w. goes_on (Of k) w ≡ true) (λ w. kind w ≡ k) (λ w. eqb-true (kind w) k) ws
+all_of : (k : ℕ) (ws : List ℕ) → AllByRecursion (λ w. of_kind k w ≡ true) ws → AllByRecursion (λ w. kind w ≡ k) ws
+all_of k ws = All-weaker (λ w. of_kind k w ≡ true) (λ w. kind w ≡ k) (λ w. eqb-true (kind w) k) ws
 
-none_of : (k : ℕ) (ws : List ℕ) → AllByRecursion (λ w. goes_on (Before k) w ≡ true) ws → AllByRecursion (λ w. kind w ≢ k) ws
-none_of k ws = All-weaker (λ w. goes_on (Before k) w ≡ true) (λ w. kind w ≢ k) (λ w e. eqb-false (kind w) k (not-true _ e)) ws
+none_of : (k : ℕ) (ws : List ℕ) → AllByRecursion (λ w. before k w ≡ true) ws → AllByRecursion (λ w. kind w ≢ k) ws
+none_of k ws = All-weaker (λ w. before k w ≡ true) (λ w. kind w ≢ k) (λ w e. eqb-false (kind w) k (not-true _ e)) ws
 
 pub parts_go_by_kind : PartsGoByKind
 parts_go_by_kind bs = record {
-  plant_words = none_of source_kind _ (run_all (Before source_kind) bs);
-  plant_ends = opens_with source_kind _ (run_stops (Before source_kind) bs);
-  source_words = all_of source_kind _ (run_all (Of source_kind) (from_source bs));
-  source_ends = opens_otherwise source_kind _ (run_stops (Of source_kind) (from_source bs));
-  target_words = all_of target_kind _ (run_all (Of target_kind) (from_target bs));
-  target_ends = opens_otherwise target_kind _ (run_stops (Of target_kind) (from_target bs));
+  plant_words = none_of source_kind _ (run_all (before source_kind) bs);
+  plant_ends = opens_with source_kind _ (run_stops (before source_kind) bs);
+  source_words = all_of source_kind _ (run_all (of_kind source_kind) (from_source bs));
+  source_ends = opens_otherwise source_kind _ (run_stops (of_kind source_kind) (from_source bs));
+  target_words = all_of target_kind _ (run_all (of_kind target_kind) (from_target bs));
+  target_ends = opens_otherwise target_kind _ (run_stops (of_kind target_kind) (from_target bs));
 }

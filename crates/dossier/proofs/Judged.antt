@@ -1,5 +1,5 @@
 -- A dossier whose parts are all read comes to the weighing.
-use Rattle.std.proofs.Common.{◌≡◌, ℕ, List, Ok, Err, Result, sym, refl, ap, ◌∙◌, arith}
+use Rattle.std.proofs.Common.{◌≡◌, ℕ, List, MatchResult, Ok, Err, Result, sym, refl, ap, ◌∙◌, arith}
 use Rattle.plant.specs.Net.{Net}
 use Rattle.plant.specs.declared.question.Counts.{Counts}
 use Rattle.words.specs.Words.{words}
@@ -17,26 +17,18 @@ use Rattle.dossier.specs.Parts.{plant_part, source_part, target_part, evidence_p
 use Rattle.dossier.specs.Fillings.{fill_read}
 use Rattle.dossier.specs.Judging.{judged}
 
--- the judgement by what the four readings give
-abbrev by_readings : Result (Unit {0}) WordFault → Result PlantDocument PaperFault → Result (List ℕ) PaperFault → Result (List ℕ) PaperFault → List ℕ → Result Verdict DossierFault
-by_readings size plant source target evidence =
-    onward (raised Input size) (λ _.
-    onward (raised Plant plant) (λ d.
-    onward (raised Source source) (λ A.
-    onward (raised Target target) (λ B.
-    raised Weighing (weighs (plant_of d) A B evidence)))))
-
 pub weighed : (bs A B : List ℕ) (d : PlantDocument) → sized bs ≡ Ok tt → plant_read (plant_part bs) ≡ Ok d → fill_read 0 (words (source_part bs)) ≡ Ok A → fill_read 0 (words (target_part bs)) ≡ Ok B → judged bs ≡ raised Weighing (weighs (plant_of d) A B (evidence_part bs))
-weighed bs A B d size plant source target =
-    ap (λ x. by_readings x (plant_read (plant_part bs)) (fill_read 0 (words (source_part bs))) (fill_read 0 (words (target_part bs))) (evidence_part bs)) size
-    ∙ (ap (λ x. by_readings (Ok tt) x (fill_read 0 (words (source_part bs))) (fill_read 0 (words (target_part bs))) (evidence_part bs)) plant
-    ∙ (ap (λ x. by_readings (Ok tt) (Ok d) x (fill_read 0 (words (target_part bs))) (evidence_part bs)) source
-    ∙ ap (λ x. by_readings (Ok tt) (Ok d) (Ok A) x (evidence_part bs)) target))
+weighed bs A B d size plant source target = rw (size, plant, source, target)
+
+-- what a reading gave whose fault, were there one, is carried up
+pub gave : {A E : Type 0} (x : A) (r : Result A E) → MatchResult r (λ y. ◌≡◌ {A = Result A DossierFault} (Ok x) (Ok y)) (λ e. ⊥) → Ok x ≡ r
+gave x (Ok y) h = cc
+gave x (Err e) h = absurd h
 
 -- a plant paper with counts has a document
 document : (r : Result PlantDocument PaperFault) (counts : Counts) → Ok counts ≡ plant_counts r → (d : PlantDocument) × (r ≡ Ok d)
 document (Ok d) counts e = (d, refl)
-document (Err x) counts e = absurd (let z : ◌≡◌ {A = ℕ} 0 1 = cc in omega arith)
+document (Err x) counts e = absurd (cc)
 
 -- what was found of each part, and what was weighed
 pub record Found (bs plant source target evidence A B : List ℕ) (counts : Counts) (N : Net) : Type 0 where

@@ -1,5 +1,6 @@
 pub mod Turns
 pub mod Judged
+pub mod Counting
 pub mod Cutting
 pub mod Writing
 pub mod Dossiers

@@ -1,5 +1,5 @@
 -- A dossier is answered by JOINED only where its plant has a walk from its source to its target.
-use Rattle.std.proofs.Common.{◌≡◌, ℕ, ◌*◌, ◌<◌, List, IfOk, Ok, Err, codes, Result, sym, refl, ◌∙◌, subst, arith}
+use Rattle.std.proofs.Common.{◌≡◌, ℕ, ◌*◌, ◌<◌, Bool, List, IfOk, Ok, Err, codes, Result, sym, refl, ◌∙◌, subst, arith}
 use Rattle.std.specs.List.{prefix_len}
 use Rattle.std.proofs.ByRecursion.{All-drop}
 use Rattle.plant.specs.Net.{Bounded}
@@ -20,9 +20,7 @@ use Rattle.dossier.specs.declared.faults.DossierFault.{DossierFault}
 use Rattle.dossier.specs.Line.{line_of}
 use Rattle.dossier.specs.declared.faults.DossierFault.TheVariants.{Input, Plant, Source, Target, Weighing}
 use Rattle.dossier.specs.Faults.{sized}
-use Rattle.dossier.specs.declared.parts.Run.{Run}
-use Rattle.dossier.specs.declared.parts.Run.TheVariants.{Before, Of}
-use Rattle.dossier.specs.Parts.{source_kind, target_kind, goes_on, after, from_source, from_target, plant_part, source_part, target_part, evidence_part}
+use Rattle.dossier.specs.Parts.{source_kind, target_kind, before, of_kind, after, from_source, from_target, plant_part, source_part, target_part, evidence_part}
 use Rattle.dossier.specs.Fillings.{fill_read}
 use Rattle.dossier.specs.Judging.{judged}
 use Rattle.dossier.specs.Shown.{HasWalk}
@@ -37,11 +35,11 @@ read_bounded bs d p =
     subst (λ x. Bounded (plant_of x)) (sym o.says ∙ is) (paper_bounded d.tanks d.valves (rest (words bs)) o.few_tanks o.few_valves)
 
 module _ (bs : List ℕ) (small : Bytes bs) where
-  after_small : (run : Run) (cs : List ℕ) → Bytes cs → Bytes (after run cs)
-  after_small run cs h = All-drop (λ b. b < 256) (4 * prefix_len (goes_on run) (words cs)) cs h
+  after_small : (test : ℕ → Bool) (cs : List ℕ) → Bytes cs → Bytes (after test cs)
+  after_small test cs h = All-drop (λ b. b < 256) (4 * prefix_len test (words cs)) cs h
 
   evidence_small : Bytes (evidence_part bs)
-  evidence_small = after_small (Of target_kind) (from_target bs) (after_small (Of source_kind) (from_source bs) (after_small (Before source_kind) bs small))
+  evidence_small = after_small (of_kind target_kind) (from_target bs) (after_small (of_kind source_kind) (from_source bs) (after_small (before source_kind) bs small))
 
   pub joined_walk : judged bs ≡ Ok Joined → HasWalk bs
   joined_walk p =

@@ -1,27 +1,42 @@
--- One more word of a filling: what it says goes from what is left to what is in the table.
-use Rattle.std.proofs.Common.{◌≡◌, ℕ, ◌+◌, ◌<◌, List, [], ◌∷◌, ◌++◌, length, take, set, Ok, Err, Result, sym, refl, ap, ◌∙◌, append_assoc}
-use Rattle.std.proofs.lemmas.List.{take_more_set}
+-- A filling, word by word: what is left to read goes on from the amounts that were read.
+use Rattle.std.proofs.Common.{◌≡◌, ℕ, ◌+◌, List, [], ◌∷◌, ◌++◌, Ok, Err, Result, refl, ap, ◌∙◌, append_assoc, append-nil, sym}
 use Rattle.words.specs.declared.faults.PaperFault.{PaperFault}
+use Rattle.words.specs.declared.word.Word.{Word}
 use Rattle.words.specs.Faults.{onward}
+use Rattle.words.specs.Placed.{placed}
 use Rattle.dossier.specs.Fillings.{amount_read, fill_read}
 
--- what follows the amounts that were read
-abbrev pub continued : List ℕ → Result (List ℕ) PaperFault → Result (List ℕ) PaperFault
-continued xs r = onward r (λ more. Ok (xs ++ more))
+abbrev pub read_on : List ℕ → List Word → Result (List ℕ) PaperFault
+read_on front [] = Ok front
+read_on front (w ∷ ws) = onward (amount_read w.place w.bits) (λ amount. read_on (front ++ amount ∷ []) ws)
 
-moved : (xs : List ℕ) (at amount : ℕ) → at < length xs → (r : Result (List ℕ) PaperFault) → continued (take (at + 1) (set xs at amount)) r ≡ continued (take at xs) (onward r (λ more. Ok (amount ∷ more)))
-moved xs at amount h (Ok more) = ap (λ l. Ok (l ++ more)) (take_more_set xs at amount h) ∙ ap Ok (append_assoc (take at xs) (amount ∷ []) more)
-moved xs at amount h (Err e) = refl
+-- the words stand at the places from n on
+abbrev pub InPlace : ℕ → List Word → Type 0
+InPlace n [] = Unit {0}
+InPlace n (w ∷ ws) = (w.place ≡ n) × InPlace (n + 1) ws
 
-turn : (xs ws : List ℕ) (at w amount : ℕ) → at < length xs → Ok amount ≡ amount_read at w → continued (take (at + 1) (set xs at amount)) (fill_read (at + 1) ws) ≡ continued (take at xs) (fill_read at (w ∷ ws))
-turn xs ws at w amount h e =
-    moved xs at amount h (fill_read (at + 1) ws)
-    ∙ ap (λ (r : Result ℕ PaperFault). continued (take at xs) (onward r (λ a. onward (fill_read (at + 1) ws) (λ more. Ok (a ∷ more))))) e
+pub placed_in_place : (n : ℕ) (ws : List ℕ) → InPlace n (placed n ws)
+placed_in_place n [] = tt
+placed_in_place n (w ∷ ws) = (refl, placed_in_place (n + 1) ws)
 
--- the same of a reader that stood at `here` over `vs`, and stands at `next` over `ws`
-pub turn_on : (xs vs ws : List ℕ) (here at next w amount : ℕ) (total : Result (List ℕ) PaperFault) → vs ≡ w ∷ ws → at ≡ here → next ≡ here + 1 → at < length xs → Ok amount ≡ amount_read at w → continued (take here xs) (fill_read here vs) ≡ total → continued (take next (set xs at amount)) (fill_read next ws) ≡ total
-turn_on xs vs ws here at next w amount total l e n h r t =
-    ap (λ m. continued (take m (set xs at amount)) (fill_read m ws)) (n ∙ ap (λ m. m + 1) (sym e))
-    ∙ (turn xs ws at w amount h r
-    ∙ (ap (λ us. continued (take at xs) (fill_read at us)) (sym l)
-    ∙ (ap (λ m. continued (take m xs) (fill_read m vs)) e ∙ t)))
+abbrev behind : List ℕ → Result (List ℕ) PaperFault → Result (List ℕ) PaperFault
+behind front r = onward r (λ more. Ok (front ++ more))
+
+one_behind : (front : List ℕ) (amount : ℕ) (r : Result (List ℕ) PaperFault) → behind (front ++ amount ∷ []) r ≡ behind front (onward r (λ more. Ok (amount ∷ more)))
+one_behind front amount (Ok more) = ap Ok (append_assoc front (amount ∷ []) more)
+one_behind front amount (Err e) = refl
+
+pub reads_on : (front : List ℕ) (at : ℕ) (ws : List ℕ) → read_on front (placed at ws) ≡ behind front (fill_read at ws)
+reads_on front at [] = ap Ok (sym (append-nil front))
+reads_on front at (w ∷ ws) = turn _ (λ amount. onward (fill_read (at + 1) ws) (λ more. Ok (amount ∷ more))) (amount_read at w) (λ amount. reads_on (front ++ amount ∷ []) (at + 1) ws ∙ one_behind front amount (fill_read (at + 1) ws))
+  where
+    turn : (f g : ℕ → Result (List ℕ) PaperFault) (r : Result ℕ PaperFault) → ((amount : ℕ) → f amount ≡ behind front (g amount)) → onward r f ≡ behind front (onward r g)
+    turn f g (Ok amount) h = h amount
+    turn f g (Err e) h = refl
+
+none_behind : (r : Result (List ℕ) PaperFault) → behind [] r ≡ r
+none_behind (Ok more) = refl
+none_behind (Err e) = refl
+
+pub reads_all : (ws : List ℕ) → read_on [] (placed 0 ws) ≡ fill_read 0 ws
+reads_all ws = reads_on [] 0 ws ∙ none_behind (fill_read 0 ws)

@@ -10,9 +10,7 @@ use Rattle.words.specs.Words.{words, bytes, word, kind, field}
 use Rattle.words.specs.Faults.{onward}
 use Rattle.words.specs.Inverse.{Words}
 use Rattle.paper.specs.Arcs.{Arc, PlantDocument, PlantFormed, ArcFits, arc_kind, arc_word, plant_words}
-use Rattle.dossier.specs.declared.parts.Run.{Run}
-use Rattle.dossier.specs.declared.parts.Run.TheVariants.{Before, Of}
-use Rattle.dossier.specs.Parts.{goes_on, run_of, after}
+use Rattle.dossier.specs.Parts.{before, of_kind, run_of, after}
 use Rattle.dossier.specs.Kinds.{OpensOtherwise}
 use Rattle.dossier.specs.Fillings.{amount_read, fill_read}
 use Rattle.dossier.specs.Written.{fill_word, fill_words}
@@ -37,23 +35,23 @@ lead_whole p [] (v ∷ vs) a s = cond-false (p v) (1 + prefix_len p vs) 0 s
 lead_whole p (w ∷ ws) vs a s = cond-true (p w) (1 + prefix_len p (ws ++ vs)) 0 a.0 ∙ omega (arith, lead_whole p ws vs a.1 s)
 
 -- is cut off there
-pub record IsCutOff (run : Run) (bs cs : List ℕ) : Type 0 where
-  pub run_is : run_of run (bs ++ cs) ≡ bs
-  pub rest_is : after run (bs ++ cs) ≡ cs
+pub record IsCutOff (test : ℕ → Bool) (bs cs : List ℕ) : Type 0 where
+  pub run_is : run_of test (bs ++ cs) ≡ bs
+  pub rest_is : after test (bs ++ cs) ≡ cs
 
-pub cut_off : (run : Run) (ws bs : List ℕ) → Words ws → AllByRecursion (λ w. goes_on run w ≡ true) ws → Stops (goes_on run) (words bs) → IsCutOff run (bytes ws) bs
-cut_off run ws bs small all stops =
-    let n : prefix_len (goes_on run) (words (bytes ws ++ bs)) ≡ length ws = ap (prefix_len (goes_on run)) (words_before ws bs small) ∙ lead_whole (goes_on run) ws (words bs) all stops in
-    let m : length (bytes ws) ≡ 4 * prefix_len (goes_on run) (words (bytes ws ++ bs)) = omega (arith, length_bytes ws) in
+pub cut_off : (test : ℕ → Bool) (ws bs : List ℕ) → Words ws → AllByRecursion (λ w. test w ≡ true) ws → Stops test (words bs) → IsCutOff test (bytes ws) bs
+cut_off test ws bs small all stops =
+    let n : prefix_len test (words (bytes ws ++ bs)) ≡ length ws = ap (prefix_len test) (words_before ws bs small) ∙ lead_whole test ws (words bs) all stops in
+    let m : length (bytes ws) ≡ 4 * prefix_len test (words (bytes ws ++ bs)) = omega (arith, length_bytes ws) in
     record { run_is = take_at (bytes ws) bs _ m; rest_is = drop_at (bytes ws) bs _ m }
 
-pub goes_before : (k : ℕ) (ws : List ℕ) → AllByRecursion (λ w. kind w ≢ k) ws → AllByRecursion (λ w. goes_on (Before k) w ≡ true) ws
-goes_before k ws = All-weaker (λ w. kind w ≢ k) (λ w. goes_on (Before k) w ≡ true) (λ w h. not_from_false _ (ne_eqb (kind w) k h)) ws
+pub goes_before : (k : ℕ) (ws : List ℕ) → AllByRecursion (λ w. kind w ≢ k) ws → AllByRecursion (λ w. before k w ≡ true) ws
+goes_before k ws = All-weaker (λ w. kind w ≢ k) (λ w. before k w ≡ true) (λ w h. not_from_false _ (ne_eqb (kind w) k h)) ws
 
-pub goes_with : (k : ℕ) (ws : List ℕ) → AllByRecursion (λ w. kind w ≡ k) ws → AllByRecursion (λ w. goes_on (Of k) w ≡ true) ws
-goes_with k ws = All-weaker (λ w. kind w ≡ k) (λ w. goes_on (Of k) w ≡ true) (λ w. eq-eqb (kind w) k) ws
+pub goes_with : (k : ℕ) (ws : List ℕ) → AllByRecursion (λ w. kind w ≡ k) ws → AllByRecursion (λ w. of_kind k w ≡ true) ws
+goes_with k ws = All-weaker (λ w. kind w ≡ k) (λ w. of_kind k w ≡ true) (λ w. eq-eqb (kind w) k) ws
 
-pub stops_otherwise : (k : ℕ) (ws : List ℕ) → OpensOtherwise k ws → Stops (goes_on (Of k)) ws
+pub stops_otherwise : (k : ℕ) (ws : List ℕ) → OpensOtherwise k ws → Stops (of_kind k) ws
 stops_otherwise k [] h = tt
 stops_otherwise k (w ∷ ws) h = ne_eqb (kind w) k h
 

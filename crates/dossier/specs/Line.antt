@@ -1,27 +1,20 @@
 -- The line that is printed: the verdict, or the number, the place and the part of the refusal.
-use Rattle.std.specs.Prelude.{ℕ, List, ◌++◌, Ok, Err, codes, decimal, Result}
-use Rattle.words.specs.declared.faults.Part.{Part}
-use Rattle.words.specs.declared.faults.Part.TheVariants.{Question, Words, Paper, Weighing}
+use Rattle.std.specs.Prelude.{ℕ, List, ◌++◌, Ok, Err, codes, Result}
+use Rattle.words.specs.Shown.{refusal_text}
+use Rattle.words.specs.declared.faults.Refusal.{Refusal}
+use Rattle.weighing.specs.Shown.{verdict_text}
 use Rattle.weighing.specs.declared.faults.Verdict.{Verdict}
-use Rattle.weighing.specs.declared.faults.Verdict.TheVariants.{Joined}
 use Rattle.dossier.specs.declared.faults.DossierFault.{DossierFault}
-use Rattle.dossier.specs.declared.answer.Answer.{Answer}
-use Rattle.dossier.specs.declared.answer.Answer.TheVariants.{Accepted, Refused}
 use Rattle.dossier.specs.Faults.{of_dossier}
 
-abbrev pub answer_of : Result Verdict DossierFault → Answer
-answer_of (Ok v) = Accepted v
-answer_of (Err e) = Refused (of_dossier e)
+-- the verdict, or the refusal of the dossier
+abbrev pub answer_of : Result Verdict DossierFault → Result Verdict Refusal
+answer_of (Ok v) = Ok v
+answer_of (Err e) = Err (of_dossier e)
 
-abbrev pub part_name : Part → List ℕ
-part_name Question = codes "QUESTION"
-part_name Words = codes "WORDS"
-part_name Paper = codes "PAPER"
-part_name Weighing = codes "WEIGHING"
-
-abbrev pub text_of : Answer → List ℕ
-text_of (Accepted Joined) = codes "JOINED"
-text_of (Refused r) = codes "REFUSED " ++ (decimal r.number ++ (codes " AT " ++ (decimal r.place ++ (codes " IN " ++ part_name r.part))))
+abbrev pub text_of : Result Verdict Refusal → List ℕ
+text_of (Ok v) = verdict_text v
+text_of (Err r) = refusal_text r
 
 -- the text and a newline
 abbrev pub line_of : Result Verdict DossierFault → List ℕ

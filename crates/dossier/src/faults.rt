@@ -8,7 +8,7 @@ use weighing::faults::WeighingFault;
 use words::{PaperFault, Refusal, WordFault};
 
 // Where the fault was met: in the size of the whole, in one of the first three parts, or in the weighing.
-#[derive(Clone, Copy, Debug, PartialEq)]
+#[derive(Clone, Copy, Debug, PartialEq, Eq)]
 pub enum DossierFault {
     Input(WordFault),
     Plant(PaperFault),
@@ -17,6 +17,7 @@ pub enum DossierFault {
     Weighing(WeighingFault),
 }
 
+// Written by hand: a derived From has no contract, so `?` would not say which fault it makes.
 impl From<WordFault> for DossierFault {
     ghost from_gives = { λ x y. y ≡ OfInput x };
 
@@ -33,16 +34,16 @@ impl From<WeighingFault> for DossierFault {
     }
 }
 
-impl DossierFault {
-    pub fn refusal(self) -> Refusal
-        ensures { result ≡ of_dossier self }
-    {
-        match self {
-            DossierFault::Input(fault) => fault.refusal(),
-            DossierFault::Plant(fault) => fault.refusal(),
-            DossierFault::Source(fault) => fault.refusal(),
-            DossierFault::Target(fault) => fault.refusal(),
-            DossierFault::Weighing(fault) => fault.refusal(),
+impl From<DossierFault> for Refusal {
+    ghost from_gives = { λ x y. y ≡ of_dossier x };
+
+    fn from(fault: DossierFault) -> Refusal {
+        match fault {
+            DossierFault::Input(fault) => Refusal::from(fault),
+            DossierFault::Plant(fault) => Refusal::from(fault),
+            DossierFault::Source(fault) => Refusal::from(fault),
+            DossierFault::Target(fault) => Refusal::from(fault),
+            DossierFault::Weighing(fault) => Refusal::from(fault),
         }
     }
 }

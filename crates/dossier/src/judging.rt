@@ -5,7 +5,7 @@ ghost use Rattle.dossier.specs.Judging.{judged};
 ghost use Rattle.dossier.specs.Shown.{HasWalk};
 
 use crate::faults::{DossierFault, check_size};
-use crate::filling::Filling;
+use crate::fillings::read_filling;
 use crate::parts::split;
 use paper::{PaperPlant, check_plant};
 use weighing::faults::Verdict;
@@ -17,21 +17,12 @@ fn judge_in_turn(input: &[u8]) -> Result<Verdict, DossierFault>
 {
     check_size(input)?;
     let parts = split(input);
-    if let Err(fault) = check_plant(parts.plant) {
-        return Err(DossierFault::Plant(fault));
-    }
-    let source = match Filling::read(parts.source) {
-        Ok(filling) => filling,
-        Err(fault) => return Err(DossierFault::Source(fault)),
-    };
-    let target = match Filling::read(parts.target) {
-        Ok(filling) => filling,
-        Err(fault) => return Err(DossierFault::Target(fault)),
-    };
+    check_plant(parts.plant).map_err(DossierFault::Plant)?;
+    let source = read_filling(parts.source).map_err(DossierFault::Source)?;
+    let target = read_filling(parts.target).map_err(DossierFault::Target)?;
     // A paper plant refuses no paper, so the faults of this one were asked for before.
     let plant = PaperPlant::new(parts.plant);
-    let verdict = weigh(&plant, source.amounts(), target.amounts(), parts.evidence)?;
-    Ok(verdict)
+    Ok(weigh(&plant, source.as_slice(), target.as_slice(), parts.evidence)?)
 }
 
 // What the dossier's evidence shows of its plant, source and target, or the first fault of the dossier. JOINED is answered only

@@ -3,7 +3,6 @@
 
 pub mod answer;
 pub mod faults;
-pub mod filling;
 pub mod fillings;
 pub mod judging;
 pub mod laws;
@@ -12,6 +11,6 @@ pub mod parts;
 #[cfg(test)]
 mod tests;
 
-pub use answer::{Answer, line};
+pub use answer::line;
 pub use faults::DossierFault;
 pub use judging::judge;

@@ -1,9 +1,9 @@
 -- A weighing answers JOINED exactly when the totals are accepted; accepted totals have a walk, and the totals of a walk are accepted.
-use Rattle.std.proofs.Common.{◌≡◌, ℕ, zero, suc, ◌<◌, ◌≤◌, Bool, true, false, cond, eqb, ltb, List, [], ◌∷◌, length, None, Ok, Err, Result, refl, ap, ◌∙◌, ⊎_elim, arith}
+use Rattle.std.proofs.Common.{◌≡◌, ℕ, zero, suc, ◌<◌, ◌≤◌, Bool, true, false, cond, eqb, ltb, List, [], ◌∷◌, length, None, Ok, Err, Result, refl, ⊎_elim, arith}
 use Rattle.std.specs.List.{AllByRecursion}
 use Rattle.std.proofs.ByRecursion.{All-weaker}
 use Rattle.std.proofs.lemmas.List.{get_or_past}
-use Rattle.std.proofs.lemmas.Bool.{cases_lt, cond-true, eqb-true, eq-eqb, le-ltb, ltb-false}
+use Rattle.std.proofs.lemmas.Bool.{cases_lt, eqb-true, eq-eqb, le-ltb, ltb-false}
 use Rattle.plant.specs.Limits.{most_amount}
 use Rattle.plant.specs.Net.{Net, Bounded}
 use Rattle.plant.specs.Walk.{Firing, Walk, held}
@@ -11,7 +11,7 @@ use Rattle.plant.specs.Firings.{named, total, totals, upto, WalkBy}
 use Rattle.walks.proofs.Named.{upto_either}
 use Rattle.walks.proofs.Sufficient.{sufficient}
 use Rattle.walks.proofs.Necessary as Necessary
-use Rattle.words.specs.Faults.{onward, raised, refusing}
+use Rattle.words.specs.Faults.{raised}
 use Rattle.words.specs.Inverse.{Bytes}
 use Rattle.paper.specs.Totals.{TotalFits, TotalsFormed, totals_paper}
 use Rattle.paper.specs.TotalsForm.{totals_read}
@@ -26,7 +26,7 @@ use Rattle.weighing.specs.Question.{over, asked, Filling}
 use Rattle.weighing.specs.Judgement.{judged}
 use Rattle.weighing.specs.Weighing.{weighs}
 use Rattle.weighing.specs.Accepted.{Accepted, WithinLimits, totals_of_walk, TotalsAreWeighedExactly, AcceptedTotalsHaveAWalk, TotalsOfWalksAreAccepted}
-use Rattle.weighing.proofs.Conditions.{found_first, meets_joined, joined_meets}
+use Rattle.weighing.proofs.Conditions.{Search, search_of, found_none, meets_joined, joined_meets}
 
 -- no amount is over the limit exactly when the search finds none
 small_none : (A : List ℕ) → ((r : ℕ) → held A r ≤ most_amount) → over A ≡ None
@@ -39,30 +39,29 @@ none_small A e r =
     (λ (l : length A ≤ r). omega (arith, get_or_past A r 0 l))
     (cases_lt r (length A))
 
+over_found : (A : List ℕ) → Search ((r : ℕ) → held A r ≤ most_amount) (λ k. Unit {0}) (over A)
+over_found A = search_of (over A) (none_small A) (λ k e. tt)
+
 -- a test before an answer
 pub cond_ok : {X E : Type 0} (t : Bool) (r : Result X E) (f : E) (x : X) → cond t r (Err f) ≡ Ok x → (t ≡ true) × (r ≡ Ok x)
 cond_ok true r f x p = (refl, p)
-cond_ok false r f x p = absurd (let z : ◌≡◌ {A = ℕ} 0 1 = cc in omega arith)
+cond_ok false r f x p = absurd (cc)
 
 asked_fillings : (tanks : ℕ) (A B : List ℕ) → asked tanks A B ≡ Ok tt → Filling tanks A × Filling tanks B
 asked_fillings tanks A B p =
     let one = cond_ok (eqb (length A) tanks) _ _ _ p in
     let two = cond_ok (eqb (length B) tanks) _ _ _ one.1 in
-    let three = found_first (over A) (Amount Source) _ _ two.1 in
-    let four = found_first (over B) (Amount Target) _ _ three.1 in
-    (record { listed = eqb-true _ _ one.0; small = none_small A three.0 }, record { listed = eqb-true _ _ two.0; small = none_small B four.0 })
+    let three = found_none (Amount Source) _ _ (over_found A) two.1 in
+    let four = found_none (Amount Target) _ _ (over_found B) three.1 in
+    (record { listed = eqb-true _ _ one.0; small = three.0 }, record { listed = eqb-true _ _ two.0; small = four.0 })
 
 fillings_asked : (tanks : ℕ) (A B : List ℕ) → Filling tanks A → Filling tanks B → asked tanks A B ≡ Ok tt
-fillings_asked tanks A B a b =
-    cond-true (eqb (length A) tanks) _ _ (eq-eqb (length A) tanks a.listed)
-    ∙ (cond-true (eqb (length B) tanks) _ _ (eq-eqb (length B) tanks b.listed)
-    ∙ (ap (λ o. refusing o (Amount Source) (refusing (over B) (Amount Target) (Ok tt))) (small_none A a.small)
-    ∙ ap (λ o. refusing o (Amount Target) (Ok tt)) (small_none B b.small)))
+fillings_asked tanks A B a b = rw (eq-eqb (length A) tanks a.listed, eq-eqb (length B) tanks b.listed, small_none A a.small, small_none B b.small)
 
 -- a fault of a lower part is none of the upper answer
 pub raised_ok : {X E F : Type 0} (up : E → F) (r : Result X E) (x : X) → raised up r ≡ Ok x → r ≡ Ok x
-raised_ok up (Ok y) x p = let z : y ≡ x = cc in ap Ok z
-raised_ok up (Err e) x p = absurd (let z : ◌≡◌ {A = ℕ} 0 1 = cc in omega arith)
+raised_ok up (Ok y) x p = cc
+raised_ok up (Err e) x p = absurd (cc)
 
 module _ (N : Net) (b : Bounded N) (A B bs : List ℕ) where
   pub only_accepted : Bytes bs → weighs N A B bs ≡ Ok Joined → Accepted N A B bs
@@ -82,9 +81,7 @@ module _ (N : Net) (b : Bounded N) (A B bs : List ℕ) where
 
   pub all_accepted : Accepted N A B bs → weighs N A B bs ≡ Ok Joined
   all_accepted a =
-      ap (λ r. onward (raised Question r) (λ _. onward (raised Paper (totals_read N.valves bs)) (λ d. raised Totals (judged N A B d)))) (fillings_asked N.tanks A B a.source a.target)
-      ∙ (ap (λ r. onward (raised Paper r) (λ d. raised Totals (judged N A B d))) (ap (totals_read N.valves) a.written ∙ totals_papers_are_exact.written_is_read N.valves a.document a.formed)
-      ∙ ap (raised Totals) (meets_joined N b A B a.document a.meets))
+      rw (fillings_asked N.tanks A B a.source a.target, a.written, totals_papers_are_exact.written_is_read N.valves a.document a.formed, meets_joined N b A B a.document a.meets)
 
   pub accepted_walk : (a : Accepted N A B bs) → WalkBy N A B (named a.document.totals)
   accepted_walk a = sufficient N b A B a.document.divisor a.document.totals (tallied N.valves a.document a.formed) a.meets

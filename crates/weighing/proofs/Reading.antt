@@ -49,5 +49,9 @@ length-placed : (at : ℕ) (ws : List ℕ) → length (placed at ws) ≡ length 
 length-placed at [] = refl
 length-placed at (w ∷ ws) = omega (arith, length-placed (at + 1) ws)
 
+-- the words to come are within the bytes
+pub words_inside : (r : Reader) → 4 * length (to_come r) ≤ length r.bytes.now
+words_inside r = omega (arith, length-placed r.at (left r), length-drop r.at (words r.bytes.now), length_words r.bytes.now)
+
 pub few_words : (r : Reader) (x : TotalsPaper) → r.bytes.now ≡ x.bytes.now → length (to_come r) ≤ most_evidence_words
-few_words r x e = omega (arith, length-placed r.at (left r), length-drop r.at (words r.bytes.now), length_words r.bytes.now, ap length e)
+few_words r x e = omega (arith, words_inside r, ap length e)

@@ -1,4 +1,4 @@
-use Rattle.std.proofs.Common.{◌≡◌, ◌*◌, ◌^◌, ◌≤◌, length, get_or, refl, ap, ◌∙◌, rules, tests, arith, sum_by}
+use Rattle.std.proofs.Common.{◌≡◌, ◌^◌, get_or, refl, ap, ◌∙◌, rules, tests, arith, sum_by}
 use Rattle.std.proofs.lemmas.Iterator.{YieldsList-from_map}
 use Rattle.std.proofs.lemmas.Iterator.Adapters.{fits_from_length, at_most_from_yields_List}
 use Rattle.std.proofs.lemmas.Iterator.Consumers.{YieldsList-from_first, YieldsList-at, sum_by_from_yields_List}
