@@ -50,10 +50,11 @@ impl<P: Plant> Question<'_, P> {
         ensures is { result ≡ given (P.Plant.meaning self.now.plant.now) (totals_said paper.now).totals tank }
         ensures small { result ≤ 2 ^ 30 * most_evidence_words }
     {
-        paper
-            .totals()
-            .map(|word| self.given_by(tank, Total::from(word)))
-            .sum()
+        let mut sum = 0;
+        for word in paper.totals() {
+            sum += self.given_by(tank, Total::from(word));
+        }
+        sum
     }
 
     // One side of a tank's balance: the divisor times the amount in the source, and what the totals give.
