@@ -5,7 +5,7 @@ use Rattle.std.proofs.lemmas.Bool.Decides.{nat_tests}
 use Rattle.plant.specs.Limits.{most_tanks, most_valves, most_weight}
 use Rattle.words.specs.Words.{kind, field}
 use Rattle.paper.specs.declared.plant_form.PlantForm.{PlantForm}
-use Rattle.paper.specs.declared.plant_form.PlantForm.TheVariants.{Head, Arcs}
+use Rattle.paper.specs.declared.plant_form.PlantForm.TheVariants.{Head}
 use Rattle.paper.specs.Limits.{most_plant_words}
 use Rattle.paper.specs.Arcs.{Arc, PlantDocument, PlantFormed, ArcFits, RisingArcs, arc_kind, arc_key, arc_word, arc_of, plant_head, plant_words, plant_document}
 use Rattle.paper.specs.PlantForm.{plant_step}

@@ -1,5 +1,5 @@
 -- A run over words with their places.
-use Rattle.std.proofs.Common.{◌≡◌, ℕ, ◌+◌, List, [], ◌∷◌, Ok, Err, Result, refl, sym, ap, ◌∙◌}
+use Rattle.std.proofs.Common.{◌≡◌, ℕ, ◌+◌, List, [], ◌∷◌, Ok, Err, Result, refl}
 use Rattle.words.specs.declared.faults.PaperFault.{PaperFault}
 use Rattle.words.specs.declared.word.Word.{Word}
 use Rattle.words.specs.Placed.{placed}

@@ -81,6 +81,7 @@ found key p ws rises before after = at (first (drop p ws)) refl
     is : (w : ℕ) (b : Bool) → eqb (w / 2 ^ 16) key ≡ b → (p < length ws) × (get_or ws p 0 ≡ w) → option_map (λ (w : Word). w.bits) (cond b (Some (record { place = p; bits = w })) None) ≡ find_arc key ws
     is w true e there = sym (found_at key ws p there.0 (λ j h k. omega (arith, before j h)) (ap (λ x. x / 2 ^ 16) there.1 ∙ eqb-true (w / 2 ^ 16) key e) ∙ ap Some there.1)
     is w false e there = sym (found_none key ws (passed_by key ws p rises before after there.0 (λ k. eqb-false (w / 2 ^ 16) key e (ap (λ x. x / 2 ^ 16) (sym there.1) ∙ k))))
+
     at : (o : Option ℕ) → o ≡ first (drop p ws) → option_map (λ (w : Word). w.bits) (option_filter (λ w. eqb (w.bits / 2 ^ 16) key) (option_map (λ w. record { place = p; bits = w }) o)) ≡ find_arc key ws
     at None e = let past = (read_none p ws e).0 in sym (found_none key ws (λ j h k. omega (arith, before j (omega arith))))
     at (Some w) e = is w (eqb (w / 2 ^ 16) key) refl (read_some p ws w e)

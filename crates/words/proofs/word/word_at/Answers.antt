@@ -1,6 +1,5 @@
-use Rattle.std.proofs.Common.{◌-◌, length, take, drop, sym, ap, ◌∙◌}
+use Rattle.std.proofs.Common.{sym, ap}
 use Rattle.std.specs.Option.{option_map}
-use Rattle.words.specs.Words.{words}
 use Rattle.words.proofs.Laws.{first_past, first_here}
 use Rattle.words.proofs.word.word_at.Goals as goal
 

@@ -1,5 +1,5 @@
 use Rattle.std.proofs.Common.{refl}
-use Rattle.words.proofs.Placing.{reads, none_left}
+use Rattle.words.proofs.Placing.{reads}
 use Rattle.words.proofs.reader.Reader.take_word.Goals as goal
 
 pub invariant_of-self : goal.invariant_of-self
