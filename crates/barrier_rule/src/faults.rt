@@ -6,7 +6,7 @@ use words::{Part, Refusal};
 
 // A barrier that shows nothing: it does not hold of (source, source) or of (target, target), or it holds of (source, target);
 // a step is missing, by its direction, case and valve in one number; or a match is not good, by its word.
-#[derive(Clone, Copy, Debug, PartialEq)]
+#[derive(Clone, Copy, Debug, PartialEq, Eq)]
 pub enum BarrierFault {
     FailsSource,
     FailsTarget,
