@@ -19,10 +19,13 @@ pub fn count_kind(bytes: &[u8], kind: Kind) -> usize
 pub fn seek(bytes: &[u8], kind: Kind, n: usize) -> &[u8]
     ensures { words result.now ≡ spec.from_nth (number_of kind) n (words bytes.now) }
 {
-    Reader::new(bytes)
+    let found = Reader::new(bytes)
         .filter(|word| word.kind() == Some(kind))
-        .nth(n)
-        .map_or(&[], |word| &bytes[4 * word.place..])
+        .nth(n);
+    match found {
+        Some(word) => &bytes[4 * word.place..],
+        None => &[],
+    }
 }
 
 // How many words come before the first that ends a part: one of the kind, or a step.
