@@ -1,9 +1,2 @@
-pub mod Meant
-pub mod Answering
+pub mod Lists
 pub mod Reading
-pub mod Gaps
-pub mod Matched
-pub mod StepMatches
-pub mod StepAnswers
-pub mod Going
-pub mod Whole
