@@ -1,2 +1,5 @@
 pub mod Lists
 pub mod Reading
+pub mod Gaps
+pub mod Matched
+pub mod Steps

@@ -1,5 +1,5 @@
 -- The case and the barrier that lists of weights are.
-use Rattle.std.specs.Prelude.{◌≡◌, ℕ, List, map, min, Ok}
+use Rattle.std.specs.Prelude.{◌≡◌, ℕ, ◌<◌, List, map, length, min, Ok, slice_index}
 use Rattle.std.specs.List.{range_with_len}
 use Rattle.plant.specs.Net.{Net}
 use Rattle.arrayvec.specs.ArrayVec.{ArrayVec}
@@ -22,6 +22,7 @@ barrier_meant x = map case_meant x.items
 abbrev pub case_said : List ℕ → Case
 case_said ws = map (λ l. line_said (line_part l ws)) (range_with_len 0 (min (count_kind 7 ws) most_lines))
 
--- the paper is read on the plant without fault
-abbrev pub ReadOn : Net → BarrierPaper → Type 0
-ReadOn N x = barrier_read N.tanks N.valves x.bytes.now ≡ Ok (barrier_said x)
+-- the paper is bytes that are read on the plant without fault
+pub record ReadOn (N : Net) (x : BarrierPaper) : Type 0 where
+  pub small : (i : ℕ) → i < length x.bytes.now → slice_index x.bytes.now i < 256
+  pub read : barrier_read N.tanks N.valves x.bytes.now ≡ Ok (barrier_said x)
