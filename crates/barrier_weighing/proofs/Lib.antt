@@ -3,3 +3,4 @@ pub mod Reading
 pub mod Gaps
 pub mod Matched
 pub mod Steps
+pub mod Going

@@ -121,8 +121,8 @@ impl<'a, P: Plant> Judge<'a, P> {
         // A step's matches are taken as one part, as many words as the case reached has lines.
         while let Some(word) = word_at(rest, 0) {
             let due = self.cases[StepWord::from(word).to].len();
-            let (step, others) = rest.split_at(4 * (1 + due));
-            next = self.judge_step(next, Word { place, ..word }, &step[4..])?;
+            let (matches, others) = rest[4..].split_at(4 * due);
+            next = self.judge_step(next, Word { place, ..word }, matches)?;
             place += 1 + due;
             rest = others;
         }
