@@ -89,10 +89,8 @@ impl<'a, P: Plant> Judge<'a, P> {
         }
         let valve = ValveWeights::of_plant(self.plant, step.valve);
         let from = &self.cases[step.from];
-        let to = &self.cases[step.to];
-        Reader::new(matches)
-            .zip(to)
-            .position(|(word, line)| !is_match_good(&valve, step.way, from, word, line))
+        let mut matched = Reader::new(matches).zip(&self.cases[step.to]);
+        matched.position(|(word, to)| !is_match_good(&valve, step.way, from, word, to))
     }
 
     // One step with its matches, where every place before `next` has been judged. The answer is the next place to judge.

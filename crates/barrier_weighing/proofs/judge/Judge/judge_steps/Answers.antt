@@ -27,8 +27,7 @@ loop-word-init g c =
     let x = c.args.self.now.paper.now in
     let d = barrier_said x in
     let f = formed_of N x c.args.self.now.read in
-    let ws = words x.bytes.now in
-    (
+    let ws = words x.bytes.now in (
       omega (arith, c.steps_at-place.ensures, ap length c.steps-rest.ensures, ap length (steps_last ws), length-append (before_steps ws) (steps_part ws), length_words x.bytes.now, x.few),
       record {
         steps = d.steps;
@@ -106,8 +105,7 @@ loop-word-smaller g c =
 pub loop-word-preserved : goal.loop-word-preserved
 loop-word-preserved g c =
     let read = read_next c.loop-word.rest.now c.in-Some.word c.in-Some.ensures in
-    let before = c.loop-word.invariant.0 in
-    (
+    let before = c.loop-word.invariant.0 in (
       omega (arith, before, ap length read, c.split_at.ensures.front_len, c.split_at.ensures.back_len, length_words c.split_at.result.1.now, length_words (after c.loop-word.rest.now)),
       on g (goal.at.loop-word-preserved g c).After-from c.len-due.result c.index-deref-from.result c.index-deref-from.is c.len-due.ensures.value c.split_at.result.0.now c.split_at.result.1.now c.split_at.ensures.front c.split_at.ensures.back c.in_ok-next.next c.in_ok-next.ensures,
     )
