@@ -1,9 +1,6 @@
-pub mod Meant
-pub mod Answering
+pub mod Lists
 pub mod Reading
 pub mod Gaps
 pub mod Matched
-pub mod StepMatches
-pub mod StepAnswers
+pub mod Steps
 pub mod Going
-pub mod Whole

@@ -1,72 +1,71 @@
--- The matches of a step, one by one.
-use Rattle.std.proofs.Common.{◌≡◌, ℕ, ◌+◌, ◌<◌, ◌≤◌, Bool, true, false, not, List, [], ◌∷◌, map, length, get_or, drop, Some, None, sym, ap, ◌∙◌, arith, length-drop, drop-cons, below_more}
-use Rattle.std.proofs.lemmas.List.{get_or-map}
-use Rattle.std.proofs.ByRecursion.{All-get_or}
+-- The matches of a step, each with the line of the case reached that it stands for.
+use Rattle.std.proofs.Common.{◌≡◌, ℕ, zero, suc, ◌+◌, ◌<◌, Bool, true, false, not, List, [], ◌∷◌, map, length, get_or, Some, None, Option, MatchOption, sym, refl, ap, ◌∙◌, subst, arith}
+use Rattle.std.specs.List.{zip, AllWithin, HoldsAt}
+use Rattle.std.proofs.lemmas.List.{get_or-map, length-map}
+use Rattle.std.proofs.lemmas.Bool.{cond-true}
+use Rattle.std.proofs.lemmas.Slice.Zip.{length-zip, get_or-zip}
 use Rattle.plant.specs.Net.{Net}
-use Rattle.words.specs.Words.{words}
-use Rattle.barriers.specs.Lines.{Line, line_at}
-use Rattle.barriers.specs.Steps.{Way, Match, no_match}
+use Rattle.words.specs.declared.word.Word.{Word}
+use Rattle.words.specs.Placed.{placed}
+use Rattle.barriers.specs.Lines.{Case, Barrier, no_line, line_at, case_at}
+use Rattle.barriers.specs.Steps.{Way, Match, Step, no_match}
 use Rattle.barriers.specs.Tests.{good?}
-use Rattle.starting.proofs.Firsts.{first_none, first_some}
+use Rattle.starting.specs.Starting.{first_below}
+use Rattle.starting.proofs.Firsts.{Answers, first_is}
 use Rattle.lines.specs.OfLine.{line_meant}
 use Rattle.lines.specs.declared.line.LineWeights.{LineWeights}
 use Rattle.barrier_paper.specs.Document.{match_said}
-use Rattle.barrier_weighing.specs.declared.cases.CaseLines.{CaseLines}
-use Rattle.barrier_weighing.specs.OfCases.{case_meant}
-use Rattle.barrier_weighing.specs.OfMatches.{good_match, bad_match, MatchWords}
-use Rattle.barrier_weighing.proofs.Meant.{lines_meant, line_there}
+use Rattle.barrier_rule.specs.Judgement.{first_bad}
 
-module _ (N : Net) (way : Way) (t : ℕ) (from : CaseLines) where
-  -- the answer for the line, the factors and the line of a case that a word says
-  pub good_said : (ψ' : Line) (w l p q : ℕ) (z : LineWeights) (r : Bool) → l ≡ (match_said w).line → p ≡ (match_said w).p → q ≡ (match_said w).q → (match_said w).line < length (case_meant from) → r ≡ good? N way t (line_meant (get_or from.lines l z)) ψ' p q → r ≡ good? N way t (line_at (case_meant from) (match_said w).line) ψ' (match_said w).p (match_said w).q
-  good_said ψ' w l p q z r el ep eq inside e =
-      let there : l < from.count = omega (arith, lines_meant from) in
-      e
-      ∙ (ap (λ ψ. good? N way t ψ ψ' p q) (sym (line_there from l z there) ∙ ap (line_at (case_meant from)) el)
-      ∙ (ap (λ n. good? N way t (line_at (case_meant from) (match_said w).line) ψ' n q) ep
-      ∙ ap (λ n. good? N way t (line_at (case_meant from) (match_said w).line) ψ' (match_said w).p n) eq))
+length_placed : (at : ℕ) (ws : List ℕ) → length (placed at ws) ≡ length ws
+length_placed at [] = refl
+length_placed at (w ∷ ws) = ap suc (length_placed (at + 1) ws)
 
--- what a reader has yet to read, by its place and its bytes
-pub stands : (at k : ℕ) (bs ms vs : List ℕ) → at ≡ k → bs ≡ ms → drop at (words bs) ≡ vs → drop k (words ms) ≡ vs
-stands at k bs ms vs p q e = sym (ap (λ n. drop n (words ms)) p) ∙ (sym (ap (λ b. drop at (words b)) q) ∙ e)
+placed_at : (at : ℕ) (ws : List ℕ) (k : ℕ) (v : Word) → k < length ws → (get_or (placed at ws) k v).bits ≡ get_or ws k 0
+placed_at at [] k v h = absurd (omega arith)
+placed_at at (w ∷ ws) zero v h = refl
+placed_at at (w ∷ ws) (suc k) v h = placed_at (at + 1) ws k v (omega arith)
 
--- the word at which a reader stands
-pub at_word : (ws : List ℕ) (k w : ℕ) (rest : List ℕ) → drop k ws ≡ w ∷ rest → (k < length ws) × (get_or ws k 0 ≡ w)
-at_word ws k w rest e =
-    let inside : k < length ws = omega (arith, ap length e, length-drop k ws) in
-    let h = drop-cons ws k 0 inside in
-    (inside, cc)
+first_of : {X : Type 0} (xs : List X) → 0 < length xs → X
+first_of [] h = absurd (omega arith)
+first_of (x ∷ xs) h = x
 
-pub at_end : (ws : List ℕ) (k : ℕ) → drop k ws ≡ [] → length ws ≤ k
-at_end ws k e = omega (arith, ap length e, length-drop k ws)
+module _ (N : Net) (way : Way) (t : ℕ) (φ : Case) where
+  -- whether match k of several is good
+  abbrev pub good_match : Case → List Match → ℕ → Bool
+  good_match φ' ms k = good? N way t (line_at φ (get_or ms k no_match).line) (line_at φ' k) (get_or ms k no_match).p (get_or ms k no_match).q
 
-module _ (N : Net) (way : Way) (t : ℕ) (from to : CaseLines) (ws : List ℕ) where
-  -- the matches before match k are good
-  abbrev pub GoodBefore : ℕ → Type 0
-  GoodBefore k = (j : ℕ) → j < k → good_match N way t (case_meant from) (case_meant to) (map match_said ws) j ≡ true
+  -- what is known of a match by its word and its line
+  abbrev pub Told : Bool → Word × LineWeights → Type 0
+  Told b p = (match_said p.0.bits).line < length φ → good? N way t (line_at φ (match_said p.0.bits).line) (line_meant p.1) (match_said p.0.bits).p (match_said p.0.bits).q ≡ b
 
-  pub none_bad : (k : ℕ) → to.count ≤ k → GoodBefore k → None ≡ bad_match N way t (case_meant from) (case_meant to) ws
-  none_bad k past before = sym (first_none (λ j. not (good_match N way t (case_meant from) (case_meant to) (map match_said ws) j)) (length (case_meant to)) (λ j (h : j < length (case_meant to)). ap not (before j (omega (arith, lines_meant to)))))
+  module _ (ws : List ℕ) (xs : List LineWeights) (matched : length ws ≡ length xs) (named : (k : ℕ) → k < length ws → (get_or (map match_said ws) k no_match).line < length φ) where
+    abbrev pairs : List (Word × LineWeights)
+    pairs = zip (placed 0 ws) xs
 
-  module _ (k w : ℕ) (rest : List ℕ) (here : drop k ws ≡ w ∷ rest) (z : LineWeights) (there : k < to.count) (r : Bool) (answer : r ≡ good? N way t (line_at (case_meant from) (match_said w).line) (line_meant (get_or to.lines k z)) (match_said w).p (match_said w).q) where
-    at_match : good_match N way t (case_meant from) (case_meant to) (map match_said ws) k ≡ r
-    at_match =
-        let (inside, is) = at_word ws k w rest here in
-        let said = get_or-map match_said ws k 0 no_match inside ∙ ap match_said is in
-        ap (λ (m : Match). good? N way t (line_at (case_meant from) m.line) (line_at (case_meant to) k) m.p m.q) said
-        ∙ (ap (λ ψ. good? N way t (line_at (case_meant from) (match_said w).line) ψ (match_said w).p (match_said w).q) (line_there to k z there) ∙ sym answer)
+    length_pairs : length pairs ≡ length ws
+    length_pairs = omega (arith, length-zip (placed 0 ws) xs, length_placed 0 ws, matched)
 
-    pub bad_found : r ≡ false → GoodBefore k → Some k ≡ bad_match N way t (case_meant from) (case_meant to) ws
-    bad_found e before =
-        sym (first_some (λ j. not (good_match N way t (case_meant from) (case_meant to) (map match_said ws) j)) (length (case_meant to)) k
-        (record { below = omega (arith, lines_meant to); passes = ap not (at_match ∙ e); least = λ j h. ap not (before j h) }))
+    told : (k : ℕ) (b : Bool) → k < length ws → HoldsAt (Told b) pairs k → good_match (map line_meant xs) (map match_said ws) k ≡ b
+    told k b h says =
+        let v : Word = record { place = 0; bits = 0 } in
+        let x = first_of xs (omega (arith, matched)) in
+        let m = get_or-map match_said ws k 0 no_match h ∙ ap match_said (sym (placed_at 0 ws k v h)) in
+        let line = get_or-map line_meant xs k x no_line (omega (arith, matched)) in
+        let at = subst (Told b) (get_or-zip (placed 0 ws) xs k (v, x) (omega (arith, length_placed 0 ws)) (omega (arith, matched))) (says (v, x)) in
+        rw (m, line) (at (rw m at (named k h)))
 
-    pub good_too : r ≡ true → GoodBefore k → GoodBefore (k + 1)
-    good_too e before = below_more _ _ before (at_match ∙ e)
+    pub searched : (r : Option ℕ) → MatchOption r (AllWithin (Told true) pairs 0 (length pairs)) (λ i. (i < length pairs) × HoldsAt (Told false) pairs i × AllWithin (Told true) pairs 0 i)
+        → r ≡ first_below (length ws) (λ k. not (good_match (map line_meant xs) (map match_said ws) k))
+    searched r h = first_is _ _ r (answers r h)
+      where
+        answers : (r : Option ℕ) → MatchOption r (AllWithin (Told true) pairs 0 (length pairs)) (λ i. (i < length pairs) × HoldsAt (Told false) pairs i × AllWithin (Told true) pairs 0 i) → Answers (λ k. not (good_match (map line_meant xs) (map match_said ws) k)) (length ws) r
+        answers None h = λ k l. ap not (told k true l (λ d. h k d (omega arith) (omega (arith, length_pairs))))
+        answers (Some i) h =
+            let inside : i < length ws = omega (arith, h.0, length_pairs) in
+            record { below = inside; passes = ap not (told i false inside h.1); least = λ k l. ap not (told k true (omega arith) (λ d. h.2 k d (omega arith) l)) }
 
--- each word names a line of the case left
-pub names_line : (from to : CaseLines) (ws : List ℕ) → MatchWords (case_meant from) (case_meant to) ws → (k w : ℕ) (rest : List ℕ) → drop k ws ≡ w ∷ rest → (match_said w).line < length (case_meant from)
-names_line from to ws fit k w rest here =
-    let (inside, is) = at_word ws k w rest here in
-    let h = All-get_or (λ w. (match_said w).line < length (case_meant from)) ws k 0 inside fit.named in
-    rw (← is) h
+-- in an open valve's step, the first match that is not good
+pub bad_is : (N : Net) (β : Barrier) (s : Step) (M : Net) (way : Way) (t n : ℕ) (φ φ' : Case) → M ≡ N → way ≡ s.way → t ≡ s.valve → n ≡ length s.matches → φ ≡ case_at β s.from → φ' ≡ case_at β s.to → N.opens s.valve ≡ true
+    → first_below n (λ k. not (good_match M way t φ φ' s.matches k)) ≡ first_bad N β s
+bad_is N β s M way t n φ φ' a b c e f f' o = rw (a, b, c, e, f, f') (sym (cond-true (N.opens s.valve) _ _ o))

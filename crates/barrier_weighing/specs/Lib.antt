@@ -1,3 +1,4 @@
+pub mod Faults
 pub mod OfCases
 pub mod OfMatches
 pub mod Weighed

@@ -3,10 +3,7 @@
 
 mod cases;
 pub mod faults;
-mod holding;
-mod matching;
-mod stepping;
-mod tables;
+mod judge;
 pub mod weigh;
 
 pub use faults::BarrierPaperFault;

@@ -1,5 +1,5 @@
 // The weights of one line, tank by tank: its sides, and whether it holds.
-ghost use Rattle.std.specs.Prelude.{◌≡◌, ℕ, ◌*◌, ◌≤◌, unsigned_abs};
+ghost use Rattle.std.specs.Prelude.{◌≡◌, ℕ, ◌*◌, ◌≤◌, pos, unsigned_abs};
 ghost use Rattle.plant.specs.Limits.{most_tanks};
 ghost use Rattle.plant.specs.Walk.{Marking};
 ghost use Rattle.barriers.specs.Lines.{side};
@@ -14,6 +14,17 @@ use plant::limits::MOST_TANKS;
 pub struct Weights {
     pub each: [i32; MOST_TANKS],
     ghost small: { (r : ℕ) → unsigned_abs (weight_at each r) ≤ most_weight_sum },
+}
+
+// No tank has a weight.
+impl Default for Weights {
+    ghost is_default = { λ x. (r : ℕ) → weight_at x.each r ≡ pos 0 };
+
+    fn default() -> Self {
+        Weights {
+            each: [0; MOST_TANKS],
+        }
+    }
 }
 
 impl Weights {
@@ -38,7 +49,7 @@ impl Weights {
     }
 }
 
-#[derive(Clone, Copy)]
+#[derive(Clone, Copy, Default)]
 pub struct LineWeights {
     pub left: Weights,
     pub right: Weights,
