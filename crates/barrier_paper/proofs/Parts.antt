@@ -3,7 +3,7 @@ use Rattle.std.proofs.Common.{◌≡◌, ℕ, zero, suc, ◌*◌, ◌^◌, ◌<�
 use Rattle.std.specs.List.{AllByRecursion}
 use Rattle.std.proofs.lemmas.List.{append-nil, get_or-map, get_or_past, length-map}
 use Rattle.std.proofs.ByRecursion.{All-get_or}
-use Rattle.std.proofs.lemmas.Bool.{cond-true, cond-false, cond_both, eq-eqb, ne_eqb, cases_lt}
+use Rattle.std.proofs.lemmas.Bool.{cond_both, ne_eqb, cases_lt}
 use Rattle.std.proofs.lemmas.Int.{ints}
 use Rattle.words.specs.Words.{words, kind}
 use Rattle.words.proofs.Inverses.{words_of_bytes}
@@ -16,7 +16,7 @@ use Rattle.barrier_paper.specs.Windows.{from_nth, part, count_kind, case_part, l
 use Rattle.barrier_paper.proofs.Seeking.{before_le, seek_pass, seek_found}
 use Rattle.barrier_paper.proofs.Summing.{same_line, said_short}
 use Rattle.barrier_paper.proofs.WordParts.{line_head, line_good, weight_kind, weight_says, weights_of_line, lines_of_case, cases_kinds, step_says, steps_kinds, words_small}
-use Rattle.barrier_paper.proofs.Blocks.{Blocks, Stops, skip, go_on, stop, nth_block, past_blocks, count_none, count_blocks}
+use Rattle.barrier_paper.proofs.Blocks.{Blocks, Stops, skip, go_on, stop, nth_block, past_blocks, count_blocks}
 
 -- ---- sums of weight words
 
