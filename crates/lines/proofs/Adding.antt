@@ -1,5 +1,5 @@
 -- A side as a loop adds it up in 64 bits: each part stays small, and tanks beyond the tables add nothing.
-use Rattle.std.proofs.Common.{◌≡◌, ℕ, zero, suc, ◌+◌, ◌*◌, ◌<◌, ◌≤◌, min, List, length, take, get_or, ℤ, pos, negsuc, ◌+ℤ◌, ◌*ℤ◌, nat_abs, sym, refl, ap, ◌∙◌, ⊎_elim, mul-le-mul, arith, w32, w64, SFits, to_z, of_z}
+use Rattle.std.proofs.Common.{◌≡◌, ℕ, zero, suc, ◌+◌, ◌*◌, ◌<◌, ◌≤◌, min, List, length, take, get_or, ℤ, pos, ◌+ℤ◌, ◌*ℤ◌, nat_abs, sym, refl, ap, ◌∙◌, ⊎_elim, mul-le-mul, arith, w32, w64, SFits, to_z, of_z}
 use lib.IntN.{zero-*ℤ, +ℤ_idr}
 use Rattle.std.specs.List.{zip}
 use Rattle.std.specs.Slice.Iter.{iter_rest}
@@ -11,23 +11,19 @@ use Rattle.std.proofs.iter.Yields.{fronts}
 use Rattle.std.proofs.lemmas.Iterator.{YieldsList, YieldsList-from_slice, YieldsList-from_zip, YieldsList-from_take, zips}
 use Rattle.std.proofs.lemmas.List.{get_or_past, get_or_read, get_or-take, length-take}
 use Rattle.std.proofs.lemmas.Slice.Zip.{length-zip, get_or-zip}
-use Rattle.std.proofs.lemmas.Int.{ints}
+use Rattle.std.proofs.lemmas.Int.{ints, unsigned_abs-mul}
 use Rattle.std.proofs.lemmas.Bool.{cases_lt}
 use Rattle.plant.specs.Limits.{most_tanks, most_amount}
 use Rattle.plant.specs.Walk.{Marking, held}
 use Rattle.barriers.specs.Lines.{side}
 use Rattle.barriers.proofs.Sides.{side_more, side_small, side_same}
 use Rattle.lines.specs.Limits.{most_weight_sum}
-use Rattle.lines.specs.Tables.{Tabulates}
+use Rattle.lines.specs.Tables.{Tabulates, weight_at}
 use denote.Ref.{Bor}
 
 -- a number that went to 64 bits and back
 abbrev pub wide : ℤ → ℤ
 wide z = to_z w64 (of_z w64 z)
-
-pub product_small : (w : ℤ) (m big most : ℕ) → nat_abs w ≤ big → m ≤ most → nat_abs (w *ℤ pos m) ≤ big * most
-product_small (pos w) m big most hw hm = mul-le-mul hw hm
-product_small (negsuc w) m big most hw hm = let h : suc w * m ≤ big * most = mul-le-mul hw hm in omega (arith, ints)
 
 side_cut : (w : ℕ → ℤ) (m : Marking) (n k : ℕ) → ((r : ℕ) → k ≤ r → w r ≡ pos 0) → side w m (min n k) ≡ side w m n
 side_cut w m zero k none = let e : min zero k ≡ zero = omega arith in ap (side w m) e
@@ -41,11 +37,11 @@ side_cut w m (suc n) k none =
 pub record Turn (ws : List ℤ) (xs : List ℕ) (k : ℕ) (sum f h : ℤ) : Type 0 where
   pub mul_fits : SFits w64 (wide f *ℤ wide h)
   pub add_fits : SFits w64 (sum +ℤ wide (wide f *ℤ wide h))
-  pub next : wide (sum +ℤ wide (wide f *ℤ wide h)) ≡ side (λ r. get_or ws r (pos 0)) (held xs) (k + 1)
+  pub next : wide (sum +ℤ wide (wide f *ℤ wide h)) ≡ side (weight_at ws) (held xs) (k + 1)
 
 module _ (ws : List ℤ) (xs : List ℕ) (n : ℕ) (lw : length ws ≡ most_tanks) (lx : length xs ≡ most_tanks) where
   abbrev weight : ℕ → ℤ
-  weight r = get_or ws r (pos 0)
+  weight = weight_at ws
 
   -- the pairs that the loop meets
   pub pairs : {s : Take (Zip (Iter ℤ) (Iter ℕ))} → iter_rest (zip_first (take_source s)) ≡ ws → iter_rest (zip_second (take_source s)) ≡ xs → take_count s ≡ n
@@ -93,7 +89,7 @@ module _ (ws : List ℤ) (xs : List ℕ) (n : ℕ) (lw : length ws ≡ most_tank
             rw (ef, eh) refl
 
         term_small : nat_abs (weight k *ℤ pos (held xs k)) ≤ most_weight_sum * most_amount
-        term_small = product_small (weight k) (held xs k) most_weight_sum most_amount (hw k) (omega (arith, hx k))
+        term_small = let most_is : held xs k ≤ most_amount = omega (arith, hx k) in rw unsigned_abs-mul (mul-le-mul (hw k) most_is)
 
         next : sum +ℤ wide (wide f *ℤ wide h) ≡ side weight (held xs) (k + 1)
         next =

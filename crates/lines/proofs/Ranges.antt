@@ -1,5 +1,5 @@
 -- What `all` answers over the numbers below n, and what `array::from_fn` makes of them.
-use Rattle.std.proofs.Common.{◌≡◌, ℕ, zero, suc, ◌+◌, ◌<◌, ◌≤◌, Bool, true, false, ◌&&◌, refl, sym, ap, ◌∙◌, arith, add-one, add-zero, zero-add, List, length, get_or, subst, ⊎_elim}
+use Rattle.std.proofs.Common.{◌≡◌, ℕ, zero, suc, ◌+◌, ◌<◌, ◌≤◌, Bool, true, false, ◌&&◌, refl, sym, ap, ◌∙◌, arith, add-one, add-zero, zero-add, List, get_or, subst, ⊎_elim}
 use Rattle.std.proofs.iter.Yields.{nat_range_steps}
 use Rattle.std.proofs.lemmas.Iterator.{YieldsList-from_range}
 use Rattle.std.proofs.lemmas.Iterator.Search.{all_from_yields_List}
@@ -30,8 +30,9 @@ all_from p a (suc n) =
     let e : suc a + n ≡ a + suc n = omega arith in
     sym (and_assoc (all_below a p) (p a) _) ∙ (rw add-one (all_from p (suc a) n) ∙ ap (λ k. all_below k p) e)
 
-pub all_over : (p : ℕ → Bool) {n : ℕ} {F : Type 0} {s : Range ℕ} {f : F} (start : s.start ≡ 0) (end : s.end ≡ n) (u : Range ℕ) {g : Mut F (ℕ × Unit {0}) Bool} {r : Bool} → ChecksAll nat_range_steps g s f r u → ((x : ℕ) (b : Bool) (q : F) → Called g f (x, tt) b q → (q ≡ f) × (b ≡ p x)) → r ≡ all_below n p
-all_over p {n} {F} {s} start end u ran calls =
+pub all_over : (p : ℕ → Bool) {n : ℕ} {F : Type 0} {s : Range ℕ} {f : F} (u : Range ℕ) {g : Mut F (ℕ × Unit {0}) Bool} {r : Bool} → ChecksAll nat_range_steps g s f r u → s.start ≡ 0 → s.end ≡ n
+    → ((x : ℕ) (b : Bool) (q : F) → Called g f (x, tt) b q → (q ≡ f) × (b ≡ p x)) → r ≡ all_below n p
+all_over p {n} {s = s} u ran start end calls =
     let over : s ≡ record { start = 0; end = n } = rw (← start, ← end) refl in
     all_from_yields_List p _ _ _ ran (YieldsList-from_range 0 n n over (omega arith)) calls ∙ rw (zero-add n) at (all_from p 0 n)
 

@@ -1,10 +1,10 @@
 // The weights of one line, tank by tank: its sides, and whether it holds.
-ghost use Rattle.std.specs.Prelude.{◌≡◌, ℕ, ◌*◌, ◌≤◌, pos, slice_index_or, unsigned_abs};
+ghost use Rattle.std.specs.Prelude.{◌≡◌, ℕ, ◌*◌, ◌≤◌, unsigned_abs};
 ghost use Rattle.plant.specs.Limits.{most_tanks};
 ghost use Rattle.plant.specs.Walk.{Marking};
 ghost use Rattle.barriers.specs.Lines.{side};
 ghost use Rattle.lines.specs.Limits.{most_weight_sum};
-ghost use Rattle.lines.specs.Tables.{Tabulates};
+ghost use Rattle.lines.specs.Tables.{Tabulates, weight_at};
 
 use crate::amounts::{Pair, Table};
 use plant::limits::MOST_TANKS;
@@ -13,13 +13,13 @@ use plant::limits::MOST_TANKS;
 #[derive(Clone, Copy)]
 pub struct Weights {
     pub each: [i32; MOST_TANKS],
-    ghost small: { (r : ℕ) → unsigned_abs (slice_index_or each r (pos 0)) ≤ most_weight_sum },
+    ghost small: { (r : ℕ) → unsigned_abs (weight_at each r) ≤ most_weight_sum },
 }
 
 impl Weights {
     // The weight of a tank; one beyond the table has none.
     pub(crate) fn at(&self, tank: usize) -> i32
-        ensures value { result ≡ slice_index_or self.now.each tank (pos 0) }
+        ensures value { result ≡ weight_at self.now.each tank }
         ensures small { unsigned_abs result ≤ most_weight_sum }
     {
         self.each.get(tank).copied().unwrap_or(0)
@@ -27,7 +27,7 @@ impl Weights {
 
     // The sum of weight times amount over so many tanks; a tank beyond the tables adds nothing.
     pub(crate) fn side<const MOST: u32>(&self, amounts: &Table<MOST>, tanks: usize) -> i64
-        ensures is { (m : Marking) → Tabulates amounts.now.each m → result ≡ side (λ r. slice_index_or self.now.each r (pos 0)) m tanks }
+        ensures is { (m : Marking) → Tabulates amounts.now.each m → result ≡ side (weight_at self.now.each) m tanks }
         ensures small { unsigned_abs result ≤ most_tanks * (most_weight_sum * MOST) }
     {
         let mut sum = 0;
@@ -50,6 +50,7 @@ impl LineWeights {
     ghost use Rattle.lines.specs.OfLine.{line_meant};
 
     // Whether the line holds of a pair of fillings.
+    #[tactic(auto, using(std::proofs::lemmas::Int::ints))]
     pub fn holds(&self, pair: &Pair) -> bool
         ensures { (m m' : Marking) → Tabulates pair.now.source.now.each m → Tabulates pair.now.target.now.each m' → result ≡ holds_line? pair.now.tanks (line_meant self.now) m m' }
     {

@@ -1,5 +1,5 @@
 // Whether a match is good: the numbers that a pair of lines, a valve and two factors give.
-ghost use Rattle.std.specs.Prelude.{◌≡◌, ℕ, ◌≤◌, pos, ◌-ℤ◌, ◌*ℤ◌, int_le, slice_index_or, unsigned_abs};
+ghost use Rattle.std.specs.Prelude.{◌≡◌, ◌≤◌, pos, ◌-ℤ◌, ◌*ℤ◌, int_le, unsigned_abs};
 ghost use Rattle.walks.specs.Rounds.{all_below};
 ghost use Rattle.barriers.specs.Lines.{side};
 ghost use Rattle.barriers.specs.Steps.{flow};
@@ -7,6 +7,7 @@ ghost use Rattle.barriers.specs.Tests.{tank_good?, marked?, good?};
 ghost use Rattle.lines.specs.Limits.{most_valve_side};
 ghost use Rattle.lines.specs.OfLine.{line_meant};
 ghost use Rattle.lines.specs.OfWay.{way_meant};
+ghost use Rattle.lines.specs.Tables.{weight_at};
 
 use crate::line::{LineWeights, Weights};
 use crate::valve::ValveWeights;
@@ -45,12 +46,13 @@ fn difference(a: u16, x: i64, b: u16, y: i64) -> i64
 
 // Whether a times a tank's weight on one side is at least b times its weight on another.
 fn covers(a: u16, high: &Weights, b: u16, low: &Weights, tank: usize) -> bool
-    ensures { result ≡ int_le (pos 0) (pos a *ℤ slice_index_or high.now.each tank (pos 0) -ℤ pos b *ℤ slice_index_or low.now.each tank (pos 0)) }
+    ensures { result ≡ int_le (pos 0) (pos a *ℤ weight_at high.now.each tank -ℤ pos b *ℤ weight_at low.now.each tank) }
 {
     difference(a, i64::from(high.at(tank)), b, i64::from(low.at(tank))) >= 0
 }
 
 // a times the side of what a valve gives, less b times the side of what it takes.
+#[tactic(auto, using(std::proofs::lemmas::Int::ints))]
 fn balance<P: Plant>(
     valve: &ValveWeights<P>,
     a: u16,
@@ -58,7 +60,7 @@ fn balance<P: Plant>(
     b: u16,
     losses: &Weights,
 ) -> i64
-    ensures { let N = P.Plant.meaning valve.now.plant.now in result ≡ pos a *ℤ side (λ r. slice_index_or gains.now.each r (pos 0)) (N.outlet valve.now.valve) N.tanks -ℤ pos b *ℤ side (λ r. slice_index_or losses.now.each r (pos 0)) (N.intake valve.now.valve) N.tanks }
+    ensures { let N = P.Plant.meaning valve.now.plant.now in result ≡ pos a *ℤ side (weight_at gains.now.each) (N.outlet valve.now.valve) N.tanks -ℤ pos b *ℤ side (weight_at losses.now.each) (N.intake valve.now.valve) N.tanks }
 {
     let given = gains.side(&valve.outlet, valve.tanks);
     let taken = losses.side(&valve.intake, valve.tanks);
@@ -71,9 +73,9 @@ impl Match<'_> {
     fn is_tank_good(&self, tank: usize) -> bool
         ensures { result ≡ tank_good? (line_meant self.now.from.now) (line_meant self.now.to.now) self.now.factors.p self.now.factors.q tank }
     {
-        let Factors { p, q } = self.factors;
-        covers(p, &self.from.left, q, &self.to.left, tank)
-            && covers(q, &self.to.right, p, &self.from.right, tank)
+        let Match { from, to, factors } = *self;
+        let Factors { p, q } = factors;
+        covers(p, &from.left, q, &to.left, tank) && covers(q, &to.right, p, &from.right, tank)
     }
 
     // The same of each of the first tanks.
@@ -87,8 +89,8 @@ impl Match<'_> {
     pub fn flow_number<P: Plant>(&self, valve: &ValveWeights<P>, way: Way) -> i64
         ensures { result ≡ flow (P.Plant.meaning valve.now.plant.now) (way_meant way) valve.now.valve (line_meant self.now.from.now) (line_meant self.now.to.now) self.now.factors.p self.now.factors.q }
     {
-        let Match { from, to, factors } = self;
-        let Factors { p, q } = *factors;
+        let Match { from, to, factors } = *self;
+        let Factors { p, q } = factors;
         match way {
             Way::Forward => balance(valve, q, &to.right, p, &from.right),
             Way::Backward => balance(valve, p, &from.left, q, &to.left),
@@ -99,9 +101,8 @@ impl Match<'_> {
     fn is_marked(&self, flowing: i64) -> bool
         ensures { result ≡ marked? flowing (line_meant self.now.from.now) (line_meant self.now.to.now) self.now.factors.p self.now.factors.q }
     {
-        flowing > 0
-            || self.from.strict && self.factors.p >= 1
-            || !self.to.strict && self.factors.q >= 1
+        let Match { from, to, factors } = self;
+        flowing > 0 || from.strict && factors.p >= 1 || !to.strict && factors.q >= 1
     }
 
     // Whether a match is good: the numbers of the tanks and the flow number are at least 0, and a mark stands.

@@ -13,7 +13,7 @@ this_turn g c =
     let lx : length xs.each ≡ most_tanks = search rules in
     turn _ _ c.args.tanks lw lx _ ws.small xs.small xs.most_small _ _ _ _ _ _
     (YieldsList-turn (pairs ws.each xs.each c.args.tanks lw lx {s = c.into_iter-weight-iterator.result} (cc) (cc) (cc)) _ c.loop-weight.weight-iterator c.loop-weight.yielded_by _ c.next.new.self _ c.in-Some.is c.next.ensures.steps)
-    c.from.ensures c.from-in-loop-weight.ensures c.loop-weight.invariant.so_far
+    c.from.ensures c.from-in-loop-weight.ensures c.loop-weight.invariant
 
 pub overflow_mul-sum : goal.overflow_mul-sum
 overflow_mul-sum g c = (this_turn g c).mul_fits
@@ -22,7 +22,7 @@ pub overflow_add-sum : goal.overflow_add-sum
 overflow_add-sum g c = (this_turn g c).add_fits
 
 pub loop-weight-preserved : goal.loop-weight-preserved
-loop-weight-preserved g c = record { can = search rules; ends = search rules; so_far = rw length_push (this_turn g c).next }
+loop-weight-preserved g c = rw length_push (this_turn g c).next
 
 pub returns : goal.returns
 returns g c =
@@ -32,6 +32,6 @@ returns g c =
     let lx : length xs.each ≡ most_tanks = search rules in
     let end = YieldsList-end (pairs ws.each xs.each c.args.tanks lw lx {s = c.into_iter-weight-iterator.result} (cc) (cc) (cc)) _ c.loop-weight.weight-iterator c.loop-weight.yielded_by _ c.next.new.self c.in-None.is c.next.ensures.steps in
     record {
-      is = λ m same. c.loop-weight.invariant.so_far ∙ side_all ws.each xs.each c.args.tanks lw lx m _ end.1 same;
-      small = rw c.loop-weight.invariant.so_far (small_all ws.each xs.each c.args.tanks lw lx _ ws.small xs.small _ end.1);
+      is = λ m same. c.loop-weight.invariant ∙ side_all ws.each xs.each c.args.tanks lw lx m _ end.1 same;
+      small = rw c.loop-weight.invariant (small_all ws.each xs.each c.args.tanks lw lx _ ws.small xs.small _ end.1);
     }
