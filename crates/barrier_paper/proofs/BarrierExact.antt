@@ -1,5 +1,5 @@
 -- Writing and reading barrier papers are inverse to each other.
-use Rattle.std.proofs.Common.{◌≡◌, ℕ, zero, suc, ◌*◌, ◌^◌, ◌≤◌, List, [], ◌∷◌, map, length, get_or, replicate, Ok, sym, refl, ap, ◌∙◌, inl, zero-add, arith}
+use Rattle.std.proofs.Common.{◌≡◌, ℕ, zero, suc, ◌*◌, ◌^◌, ◌≤◌, List, [], ◌∷◌, map, length, get_or, Ok, sym, refl, ap, ◌∙◌, inl, zero-add, arith}
 use Rattle.std.proofs.lemmas.List.{length-map, nil_from_length}
 use Rattle.std.proofs.ByRecursion.{All-weaker}
 use Rattle.words.specs.Words.{words, bytes}
@@ -11,9 +11,9 @@ use Rattle.paper.proofs.Steps.{through, whole_read, counted_written}
 use Rattle.barriers.specs.Steps.{Step}
 use Rattle.barrier_paper.specs.declared.form.Phase.TheVariants.{Start, Case}
 use Rattle.barrier_paper.specs.declared.form.BarrierForm.{BarrierForm}
-use Rattle.barrier_paper.specs.Limits.{most_cases}
+use Rattle.barrier_paper.specs.Limits.{most_lines}
 use Rattle.barrier_paper.specs.Document.{CaseText, lines_in, StepFits, BarrierDocument, BarrierFormed, barrier_words, said, say, barrier_document}
-use Rattle.barrier_paper.specs.Form.{start, in_phase, by_phase, barrier_step, ended, barrier_form, barrier_read}
+use Rattle.barrier_paper.specs.Form.{start, after_case, by_phase, barrier_step, ended, barrier_form, barrier_read}
 use Rattle.barrier_paper.specs.Inverse.{BarrierPapersAreExact}
 use Rattle.barrier_paper.proofs.WordParts.{case_good}
 use Rattle.barrier_paper.proofs.Taking.{first_taken, between_ended}
@@ -21,26 +21,18 @@ use Rattle.barrier_paper.proofs.States.{Sound}
 use Rattle.barrier_paper.proofs.Fronts.{StepCounted, Front}
 use Rattle.barrier_paper.proofs.FrontWords.{front_words, words_case}
 use Rattle.barrier_paper.proofs.Peeling.{saying}
-use Rattle.barrier_paper.proofs.BarrierRuns.{counts_of, read, Run, write}
+use Rattle.barrier_paper.proofs.BarrierRuns.{read, Run, write}
 
 -- after the first word
 abbrev begin : ℕ → ℕ → BarrierForm
-begin tanks valves = in_phase Case (start tanks valves)
-
-zeros : (n i : ℕ) → get_or {A = ℕ} (replicate n 0) i 0 ≡ 0
-zeros zero i = refl
-zeros (suc n) zero = refl
-zeros (suc n) (suc i) = zeros n i
+begin tanks valves = after_case (start tanks valves)
 
 begin_sound : (tanks valves : ℕ) → Sound (begin tanks valves)
-begin_sound tanks valves = record {
-  begun = tt;
-  few_named = omega arith;
-  width = refl;
-  last_there = omega arith;
-  few = λ i. omega (arith, zeros most_cases i);
-  blank = λ i h. zeros most_cases i;
-}
+begin_sound tanks valves = record { begun = tt; few_named = omega arith; some_cases = omega arith; few_cases = omega arith; few = none }
+  where
+    none : (i : ℕ) → get_or (0 ∷ []) i 0 ≤ most_lines
+    none zero = omega arith
+    none (suc i) = omega arith
 
 -- the lines of a case, by their list and by the list of their counts
 lines_at : (cs : List CaseText) (i : ℕ) → get_or (map length cs) i 0 ≡ lines_in cs i
@@ -113,13 +105,13 @@ formed : (tanks valves : ℕ) (ws : List ℕ) (e : BarrierForm) (n : ℕ) (u : U
 formed tanks valves [] e n u some few p q = absurd (omega arith)
 formed tanks valves (w ∷ ws) e n u some few p q =
     let a = through (by_phase Start (start tanks valves) 0 w) (λ t. run barrier_step t 1 ws) e p in
-    let b = first_taken (start tanks valves) 0 w a.0 a.1 in
+    let b = first_taken (start tanks valves) 0 w a.0 (omega arith) a.1 in
     let r = read (begin tanks valves) 1 ws e n u (begin_sound tanks valves) (rw b.1 at a.2) q in
     let f = r.0 in
     let d = said ws in
     let cs = d.lines ∷ d.cases in
     let none = nil_from_length d.matches f.tail.matched in
-    let counts : counts_of e ≡ map length cs = f.body.counted ∙ rw zero-add in
+    let counts : e.lines.items ≡ map length cs = f.body.counted ∙ rw zero-add in
     let words_are : w ∷ ws ≡ barrier_words (record { cases = cs; steps = d.steps }) = ap (λ vs. w ∷ vs) (sym r.1) ∙ sym (words_case w d b.0 f) ∙ rw (b.0.kind_is, none) in
     rw b.0.kind_is (
       record {

@@ -1,13 +1,14 @@
 -- The words of what is still to be said: one more word stands before the words of the front after it.
-use Rattle.std.proofs.Common.{◌≡◌, ℕ, ◌+◌, ◌-◌, List, ◌∷◌, ◌++◌, map, get_or}
+use Rattle.std.proofs.Common.{◌≡◌, ℕ, ◌+◌, List, ◌∷◌, ◌++◌, map, length}
 use Rattle.std.proofs.lemmas.List.{append_assoc}
 use Rattle.words.specs.Words.{field}
+use Rattle.barrier_paper.specs.declared.form.Pending.{Pending}
 use Rattle.barrier_paper.specs.declared.form.Phase.TheVariants.{Case, Right}
 use Rattle.barrier_paper.specs.declared.form.BarrierForm.{BarrierForm}
 use Rattle.barrier_paper.specs.Document.{weight_word, line_words, joined, case_words, match_word, step_words, Said, say}
-use Rattle.barrier_paper.specs.Form.{waiting}
+use Rattle.barrier_paper.specs.Form.{waiting, after_step, after_match}
 use Rattle.barrier_paper.proofs.WordParts.{CaseWord, LineWord, WeightWord, StepWord, MatchWord, weight_written, line_written, case_written, match_written, step_written}
-use Rattle.barrier_paper.proofs.Taking.{due, named, least_step, Taken, a_case, a_line, a_left, a_right, a_step, a_match}
+use Rattle.barrier_paper.proofs.Taking.{pending, Taken, a_case, a_line, a_left, a_right, a_step, a_match}
 use Rattle.barrier_paper.proofs.Fronts.{Front, bare}
 
 -- weights first, then lines, cases, matches and steps
@@ -27,20 +28,20 @@ module _ {counts : List ℕ} {s : BarrierForm} (w : ℕ) (d : Said) where
   words_right : (tanks least n : ℕ) → WeightWord 9 tanks least w → Front counts (Right n) s d → front_words (say w d) ≡ w ∷ front_words d
   words_right tanks least n h f = rw (h.kind_is, f.lefts_fit, ← weight_written 9 tanks least w h)
 
-  words_step : (last valves least count lines n : ℕ) → StepWord last valves least w → Front counts (waiting count lines n) s d → front_words (say w d) ≡ w ∷ front_words d
-  words_step last valves least count lines n h f =
-      let no = bare counts s d count lines n f in
-      rw (h.kind_is, no.0, no.1, no.2, no.3, ← step_written last valves least w d.matches h)
+  words_step : (cases valves least : ℕ) (p : Pending) → StepWord cases valves least w → Front counts (waiting p) s d → front_words (say w d) ≡ w ∷ front_words d
+  words_step cases valves least p h f =
+      let no = bare counts s d p f in
+      rw (h.kind_is, no.0, no.1, no.2, no.3, ← step_written cases valves least w d.matches h)
 
-  words_match : (count lines least : ℕ) → MatchWord lines w → Front counts (waiting count lines least) s d → front_words (say w d) ≡ w ∷ front_words d
-  words_match count lines least h f =
-      let no = bare counts s d count lines least f in
+  words_match : (p : Pending) (lines : ℕ) → MatchWord lines w → Front counts (waiting p) s d → front_words (say w d) ≡ w ∷ front_words d
+  words_match p lines h f =
+      let no = bare counts s d p f in
       rw (h.kind_is, no.0, no.1, no.2, no.3, ← match_written lines w h)
 
 pub words_more : (counts : List ℕ) (s : BarrierForm) (w : ℕ) (t : BarrierForm) (d : Said) → Taken s.phase s w t → Front counts t.phase t d → front_words (say w d) ≡ w ∷ front_words d
 words_more counts s w t d (a_case i h few e) f = words_case w d h (rw e at f)
 words_more counts s w t d (a_line i h few e) f = words_line w d h
-words_more counts s w t d (a_left least i h e) f = words_left s.tanks least w d h
-words_more counts s w t d (a_right least i h e) f = words_right w d s.tanks least (field w 22 6 + 1) h (rw e at f)
-words_more counts s w t d (a_step b h e) f = words_step w d s.last s.valves (least_step s.phase) (get_or s.lines (field w 13 4) 0) (get_or s.lines (field w 23 4) 0) (field w 17 11 + 1) h (rw e at f)
-words_more counts s w t d (a_match b h e) f = words_match w d (due s.phase - 1) (named s.phase) (least_step s.phase) h (rw e at f)
+words_more counts s w t d (a_left least i h e) f = words_left s.counts.tanks least w d h
+words_more counts s w t d (a_right least i h e) f = words_right w d s.counts.tanks least (field w 22 6 + 1) h (rw e at f)
+words_more counts s w t d (a_step b h e) f = words_step w d (length s.lines.items) s.counts.valves (pending s.phase).least (after_step s w) h (rw e at f)
+words_more counts s w t d (a_match b h e) f = words_match w d (after_match (pending s.phase)) (pending s.phase).lines h (rw e at f)

@@ -6,9 +6,11 @@ pub mod FrontWords
 pub mod Peeling
 pub mod BarrierRuns
 pub mod BarrierExact
-pub mod Seeking
 pub mod Saying
+pub mod Seeking
 pub mod Summing
 pub mod WordKinds
 pub mod Blocks
 pub mod Parts
+pub mod Named
+pub mod Chains

@@ -1,17 +1,17 @@
 -- A well-formed front says nothing, or it is one word that is taken, before a well-formed front.
-use Rattle.std.proofs.Common.{◌≡◌, ℕ, ◌+◌, ◌-◌, ◌*◌, ◌^◌, ◌<◌, ◌≤◌, ◌⊎◌, List, [], ◌∷◌, map, length, get_or, set, Some, None, Option, sym, refl, ap, ◌∙◌, inl, inr, ⊎_elim, add-one, arith}
+use Rattle.std.proofs.Common.{◌≡◌, ℕ, ◌+◌, ◌*◌, ◌^◌, ◌<◌, ◌≤◌, ◌⊎◌, List, [], ◌∷◌, ◌++◌, map, length, get_or, Some, None, Option, sym, refl, ap, ◌∙◌, inl, inr, ⊎_elim, zero-add, add-one, arith}
 use Rattle.std.specs.List.{AllByRecursion}
-use Rattle.std.proofs.lemmas.List.{get_or-set_same}
+use Rattle.std.proofs.lemmas.List.{get_or-set_same, get_or_push, length-set, length_push}
 use Rattle.words.specs.Words.{field}
 use Rattle.barriers.specs.Steps.{Match, Step}
 use Rattle.barrier_paper.specs.declared.form.Phase.TheVariants.{Left, Right}
 use Rattle.barrier_paper.specs.declared.form.BarrierForm.{BarrierForm}
 use Rattle.barrier_paper.specs.Document.{Weight, LineText, CaseText, MatchFits, weight_word, match_word, weight_said, Said, say, nothing_said}
-use Rattle.barrier_paper.specs.Form.{in_phase}
+use Rattle.barrier_paper.specs.Form.{in_phase, after_case, last, longer, after_line, waiting, after_step, after_match}
 use Rattle.barrier_paper.proofs.WordParts.{WeightWord, line_head, step_head, weight_good, weight_says, line_good, case_good, match_good, step_word_says, step_good}
-use Rattle.barrier_paper.proofs.Taking.{InCase, lefts_from, rights_from, due, named, Between, least_step, after_case, after_line, after_step, after_match, Taken, a_case, a_line, a_left, a_right, a_step, a_match, left_in_case, right_in_case, none_between}
-use Rattle.barrier_paper.proofs.States.{Sound, room}
-use Rattle.barrier_paper.proofs.Fronts.{Weights, Body, Front, no_weights, quiet, tail_waits, case_counts, line_counts, counts_end, count_at, length_counts}
+use Rattle.barrier_paper.proofs.Taking.{InCase, lefts_from, rights_from, pending, Between, Taken, a_case, a_line, a_left, a_right, a_step, a_match, left_in_case, right_in_case, none_in_case, none_between}
+use Rattle.barrier_paper.proofs.States.{Sound}
+use Rattle.barrier_paper.proofs.Fronts.{Weights, Body, Front, no_weights, tail_waits, case_counts, line_counts, counts_end}
 
 -- one word and what is said after it
 pub record Peeled (counts : List ℕ) (s : BarrierForm) (d : Said) : Type 0 where
@@ -43,23 +43,30 @@ first_weight k tanks (Some least) x xs f =
     }
 
 -- the parts of the cases that are left after one word
-case_less : (counts : List ℕ) (tanks last : ℕ) (table : List ℕ) (c : CaseText) (cases : List CaseText) → last < length table → get_or table (last + 1) 0 ≡ 0 → Body counts tanks last table [] (c ∷ cases) → Body counts tanks (last + 1) table c cases
-case_less counts tanks last table c cases h z b = record {
-  few_lines = omega (arith, b.cases_fit.0.few_lines);
-  lines_fit = b.cases_fit.0.lines_fit;
-  few_cases = omega (arith, b.few_cases);
-  cases_fit = b.cases_fit.1;
-  counted = b.counted ∙ sym (case_counts table last (length c) (map length cases) h z);
-}
+case_less : (counts : List ℕ) (tanks : ℕ) (table : List ℕ) (c : CaseText) (cases : List CaseText) → Body counts tanks table [] (c ∷ cases) → Body counts tanks (table ++ 0 ∷ []) c cases
+case_less counts tanks table c cases b =
+    let n = length_push table 0 in
+    let k : last (table ++ 0 ∷ []) ≡ length table = omega arith in
+    record {
+      few_lines = rw (k, get_or_push table 0 0 (length table) refl, zero-add) b.cases_fit.0.few_lines;
+      lines_fit = b.cases_fit.0.lines_fit;
+      few_cases = omega (arith, b.few_cases);
+      cases_fit = b.cases_fit.1;
+      counted = b.counted ∙ sym (case_counts table (length c) (map length cases));
+    }
 
-line_less : (counts : List ℕ) (tanks last : ℕ) (table : List ℕ) (l : LineText) (lines : CaseText) (cases : List CaseText) → last < length table → Body counts tanks last table (l ∷ lines) cases → Body counts tanks last (set table last (get_or table last 0 + 1)) lines cases
-line_less counts tanks last table l lines cases h b = record {
-  few_lines = let e = get_or-set_same table last (get_or table last 0 + 1) 0 h in omega (arith, b.few_lines);
-  lines_fit = b.lines_fit.1;
-  few_cases = b.few_cases;
-  cases_fit = b.cases_fit;
-  counted = b.counted ∙ sym (line_counts table last (length lines) (map length cases) h);
-}
+line_less : (counts : List ℕ) (tanks : ℕ) (table : List ℕ) (l : LineText) (lines : CaseText) (cases : List CaseText) → 1 ≤ length table → Body counts tanks table (l ∷ lines) cases → Body counts tanks (longer table 1) lines cases
+line_less counts tanks table l lines cases h b =
+    let x = get_or table (last table) 0 in
+    let n = length-set table (last table) (x + 1) in
+    let e = get_or-set_same table (last table) (x + 1) 0 (omega arith) in
+    record {
+      few_lines = rw (n, e) (omega (arith, b.few_lines));
+      lines_fit = b.lines_fit.1;
+      few_cases = omega (arith, n, b.few_cases);
+      cases_fit = b.cases_fit;
+      counted = b.counted ∙ ap (λ v. v ++ map length cases) (sym (line_counts table (length lines) h));
+    }
 
 abbrev pub saying : List Weight → List Weight → CaseText → List CaseText → List Match → List Step → Said
 saying lefts rights lines cases ms ss = record { lefts = lefts; rights = rights; lines = lines; cases = cases; matches = ms; steps = ss }
@@ -67,7 +74,7 @@ saying lefts rights lines cases ms ss = record { lefts = lefts; rights = rights;
 module _ (counts : List ℕ) (s : BarrierForm) (sound : Sound s) where
   peel_left : (x : Weight) (xs rights : List Weight) (lines : CaseText) (cases : List CaseText) (ms : List Match) (ss : List Step) → Front counts s.phase s (saying (x ∷ xs) rights lines cases ms ss) → Peeled counts s (saying (x ∷ xs) rights lines cases ms ss)
   peel_left x xs rights lines cases ms ss f =
-      let w = first_weight 8 s.tanks (lefts_from s.phase) x xs f.lefts_fit in
+      let w = first_weight 8 s.counts.tanks (lefts_from s.phase) x xs f.lefts_fit in
       let i = left_in_case s.phase w.least w.from in
       record {
         word = weight_word 8 x;
@@ -79,7 +86,7 @@ module _ (counts : List ℕ) (s : BarrierForm) (sound : Sound s) where
           rights_fit = rw i.1 at f.rights_fit;
           in_case = inl tt;
           body = f.body;
-          tail = (quiet s.phase ms ss i.0).0 f.tail;
+          tail = rw (none_in_case s.phase i.0) at f.tail;
           steps_fit = f.steps_fit;
         };
         same = rw (w.good.kind_is, w.says);
@@ -87,7 +94,7 @@ module _ (counts : List ℕ) (s : BarrierForm) (sound : Sound s) where
 
   peel_right : (x : Weight) (xs : List Weight) (lines : CaseText) (cases : List CaseText) (ms : List Match) (ss : List Step) → Front counts s.phase s (saying [] (x ∷ xs) lines cases ms ss) → Peeled counts s (saying [] (x ∷ xs) lines cases ms ss)
   peel_right x xs lines cases ms ss f =
-      let w = first_weight 9 s.tanks (rights_from s.phase) x xs f.rights_fit in
+      let w = first_weight 9 s.counts.tanks (rights_from s.phase) x xs f.rights_fit in
       record {
         word = weight_word 9 x;
         next = in_phase (Right (field (weight_word 9 x) 22 6 + 1)) s;
@@ -98,7 +105,7 @@ module _ (counts : List ℕ) (s : BarrierForm) (sound : Sound s) where
           rights_fit = w.more;
           in_case = inl tt;
           body = f.body;
-          tail = (quiet s.phase ms ss (right_in_case s.phase w.least w.from)).0 f.tail;
+          tail = rw (none_in_case s.phase (right_in_case s.phase w.least w.from)) at f.tail;
           steps_fit = f.steps_fit;
         };
         same = rw (w.good.kind_is, w.says);
@@ -118,8 +125,8 @@ module _ (counts : List ℕ) (s : BarrierForm) (sound : Sound s) where
           lefts_fit = (fit.lefts_fit, fit.lefts_rise);
           rights_fit = (fit.rights_fit, fit.rights_rise);
           in_case = inl tt;
-          body = line_less counts s.tanks s.last s.lines l lines cases (room s sound) f.body;
-          tail = (quiet s.phase ms ss i).0 f.tail;
+          body = line_less counts s.counts.tanks s.lines.items l lines cases sound.some_cases f.body;
+          tail = rw (none_in_case s.phase i) at f.tail;
           steps_fit = f.steps_fit;
         };
         same = rw (w.0.kind_is, w.1);
@@ -137,8 +144,8 @@ module _ (counts : List ℕ) (s : BarrierForm) (sound : Sound s) where
           lefts_fit = refl;
           rights_fit = refl;
           in_case = inl tt;
-          body = case_less counts s.tanks s.last s.lines c cases (room s sound) (sound.blank (s.last + 1) (omega arith)) f.body;
-          tail = (quiet s.phase ms ss i).0 f.tail;
+          body = case_less counts s.counts.tanks s.lines.items c cases f.body;
+          tail = rw (none_in_case s.phase i) at f.tail;
           steps_fit = f.steps_fit;
         };
         same = refl;
@@ -147,19 +154,19 @@ module _ (counts : List ℕ) (s : BarrierForm) (sound : Sound s) where
   peel_match : (m : Match) (ms : List Match) (ss : List Step) → Front counts s.phase s (saying [] [] [] [] (m ∷ ms) ss) → Peeled counts s (saying [] [] [] [] (m ∷ ms) ss)
   peel_match m ms ss f =
       let t = f.tail in
-      let w = match_good (named s.phase) m sound.few_named t.matches_fit.0 in
-      let rest = tail_waits (due s.phase - 1) (named s.phase) (least_step s.phase) ms ss (record { matched = omega (arith, t.matched); matches_fit = t.matches_fit.1; steps_rise = t.steps_rise }) in
+      let p = after_match (pending s.phase) in
+      let w = match_good p.lines m sound.few_named t.matches_fit.0 in
       record {
         word = match_word m;
-        next = after_match s.phase s;
+        next = in_phase (waiting p) s;
         after = saying [] [] [] [] ms ss;
         took = a_match (omega (arith, t.matched)) w.0 refl;
         front = record {
-          lefts_fit = no_weights s.tanks _;
-          rights_fit = no_weights s.tanks _;
+          lefts_fit = no_weights s.counts.tanks _;
+          rights_fit = no_weights s.counts.tanks _;
           in_case = inr (refl, refl);
           body = f.body;
-          tail = rest;
+          tail = tail_waits p ms ss (record { matched = omega (arith, t.matched); matches_fit = t.matches_fit.1; steps_rise = t.steps_rise });
           steps_fit = f.steps_fit;
         };
         same = rw (w.0.kind_is, w.1);
@@ -169,30 +176,27 @@ module _ (counts : List ℕ) (s : BarrierForm) (sound : Sound s) where
   peel_step st ss f =
       let t = f.tail in
       let fit = f.steps_fit.0 in
-      let e = counts_end f.body (room s sound) refl refl in
-      let n : length counts ≡ s.last + 1 = ap length e ∙ length_counts s.lines s.last (room s sound) in
-      let from : st.from ≤ s.last = omega (arith, fit.from_there) in
-      let to : st.to ≤ s.last = omega (arith, fit.to_there) in
-      let last = sound.last_there in
+      let e = counts_end f.body refl refl in
+      let from = rw e at fit.from_there in
+      let to = rw e at fit.to_there in
+      let few = sound.few_cases in
       let says = step_word_says st (omega arith) fit.valve_small (omega arith) in
       let h = step_head st in
+      let p = after_step s h in
       let to_is : field h 13 4 ≡ st.to = ap (λ x. x.to) says.step_is in
       let from_is : field h 23 4 ≡ st.from = ap (λ x. x.from) says.step_is in
       let key_is = says.key_is in
-      let count : length st.matches ≡ get_or s.lines (field h 13 4) 0 = rw (e, count_at s.lines s.last st.to to, ← to_is) at fit.matched in
-      let fits : AllByRecursion (MatchFits (get_or s.lines (field h 23 4) 0)) st.matches = rw (e, count_at s.lines s.last st.from from, ← from_is) at fit.matches_fit in
-      let rest = tail_waits (get_or s.lines (field h 13 4) 0) (get_or s.lines (field h 23 4) 0) (field h 17 11 + 1) st.matches ss (record { matched = count; matches_fit = fits; steps_rise = rw (key_is, add-one) t.steps_rise.1 }) in
       record {
         word = h;
-        next = after_step s h;
+        next = in_phase (waiting p) s;
         after = saying [] [] [] [] st.matches ss;
-        took = a_step (none_between s.phase sound.begun (sym t.matched)) (step_good s.last s.valves (least_step s.phase) st last from fit.valve_there fit.valve_small to t.steps_rise.0) refl;
+        took = a_step (none_between s.phase sound.begun (sym t.matched)) (step_good (length s.lines.items) s.counts.valves (pending s.phase).least st few from fit.valve_there fit.valve_small to t.steps_rise.0) refl;
         front = record {
-          lefts_fit = no_weights s.tanks _;
-          rights_fit = no_weights s.tanks _;
+          lefts_fit = no_weights s.counts.tanks _;
+          rights_fit = no_weights s.counts.tanks _;
           in_case = inr (refl, refl);
           body = f.body;
-          tail = rest;
+          tail = tail_waits p st.matches ss (record { matched = rw (e, ← to_is) at fit.matched; matches_fit = rw (e, ← from_is) at fit.matches_fit; steps_rise = rw (key_is, add-one) t.steps_rise.1 });
           steps_fit = f.steps_fit.1;
         };
         same = rw (says.kind_is, says.step_is);

@@ -2,7 +2,7 @@
 use Rattle.std.proofs.Common.{◌≡◌, ℕ, zero, suc, ◌+◌, ◌-◌, ◌*◌, ◌≤◌, true, false, cond, ◌||◌, eqb, ◌⊎◌, List, [], ◌∷◌, ◌++◌, length, take, sym, refl, ap, ◌∙◌, inl, inr, ⊎_elim, one-add, arith, length-take}
 use Rattle.std.proofs.lemmas.Bool.{eq-eqb, ne_eqb, cond-true, cond-false, or_left, or_right, or_from, cases_eq}
 use Rattle.words.specs.Words.{words, kind}
-use Rattle.words.proofs.Laws.{length_words}
+use Rattle.words.proofs.Laws.{length_words, words_take}
 use Rattle.barrier_paper.specs.Windows.{from_nth, before, part, steps_part, before_steps}
 
 pub seek_pass : (k n w : ℕ) (ws : List ℕ) → (kind w ≡ k → ⊥) → from_nth k n (w ∷ ws) ≡ from_nth k n ws
@@ -11,11 +11,6 @@ seek_pass k (suc n) w ws ne = cond-false (eqb (kind w) k) _ _ (ne_eqb (kind w) k
 
 pub seek_count : (k n w : ℕ) (ws : List ℕ) → kind w ≡ k → from_nth k (suc n) (w ∷ ws) ≡ from_nth k n ws
 seek_count k n w ws e = cond-true (eqb (kind w) k) _ _ (eq-eqb (kind w) k e)
-
--- the same with the number as the code has it
-pub seek_count_down : (k n w : ℕ) (ws : List ℕ) → kind w ≡ k → (n ≡ 0 → ⊥) → from_nth k n (w ∷ ws) ≡ from_nth k (n - 1) ws
-seek_count_down k zero w ws e ne = absurd (ne refl)
-seek_count_down k (suc n) w ws e ne = seek_count k n w ws e ∙ ap (λ m. from_nth k m ws) (omega arith)
 
 pub seek_found : (k w : ℕ) (ws : List ℕ) → kind w ≡ k → from_nth k 0 (w ∷ ws) ≡ w ∷ ws
 seek_found k w ws e = cond-true (eqb (kind w) k) _ _ (eq-eqb (kind w) k e)
@@ -40,13 +35,16 @@ take_before k (w ∷ ws) =
 pub before_le : (k : ℕ) (ws : List ℕ) → length (before k ws) ≤ length ws
 before_le k ws = omega (arith, ap length (take_before k ws), length-take (length (before k ws)) ws)
 
--- and so is a part
-pub take_part : (k n w : ℕ) (ws vs : List ℕ) → vs ≡ w ∷ ws → n ≡ length (before k ws) → take (1 + n) vs ≡ part k vs
-take_part k n w ws vs e l =
-    ap (take (1 + n)) e ∙ (ap (λ m. take m (w ∷ ws)) (one-add n ∙ ap suc l) ∙ (ap (λ t. w ∷ t) (take_before k ws) ∙ ap (part k) (sym e)))
+-- and so is a part, which is its first word and what comes before the end
+pub record Parted (k n : ℕ) (bs : List ℕ) : Type 0 where
+  pub inside : 4 * (1 + n) ≤ length bs
+  pub is : words (take (4 * (1 + n)) bs) ≡ part k (words bs)
 
-pub part_inside : (k n w : ℕ) (ws bs : List ℕ) → words bs ≡ w ∷ ws → n ≡ length (before k ws) → 4 * (1 + n) ≤ length bs
-part_inside k n w ws bs e l = omega (arith, ap length e, before_le k ws, length_words bs)
+pub parted : (k n w : ℕ) (ws bs : List ℕ) → words bs ≡ w ∷ ws → n ≡ length (before k ws) → Parted k n bs
+parted k n w ws bs e l = record {
+  inside = omega (arith, ap length e, before_le k ws, length_words bs);
+  is = words_take (1 + n) bs ∙ rw (e, one-add, l) (ap (λ t. w ∷ t) (take_before k ws));
+}
 
 -- a paper is what comes before its steps, and then the steps
 pub steps_last : (ws : List ℕ) → before_steps ws ++ steps_part ws ≡ ws

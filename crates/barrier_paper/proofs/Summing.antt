@@ -1,18 +1,26 @@
 -- Steps and bounds of the sums of weight words.
-use Rattle.std.proofs.Common.{◌≡◌, ℕ, ◌*◌, ◌<◌, ◌≤◌, cond, eqb, leb, List, [], ◌∷◌, length, get_or, drop, set, replicate, ℤ, pos, ◌+ℤ◌, nat_abs, sym, refl, ap, ◌∙◌, subst, ⊎_elim, arith, w32, to_z, of_z}
-use Rattle.std.proofs.lemmas.List.{get_or-set_same, get_or-set_other, get_or-replicate, get_or_past, length-replicate}
+use Rattle.std.proofs.Common.{◌≡◌, ℕ, ◌+◌, ◌*◌, ◌<◌, ◌≤◌, cond, eqb, leb, List, [], ◌∷◌, map, length, get_or, set, replicate, ℤ, pos, ◌+ℤ◌, nat_abs, sym, refl, ap, ◌∙◌, subst, ⊎_elim, arith, w32, to_z, of_z}
+use Rattle.std.proofs.lemmas.List.{get_or-set_same, get_or-set_other, get_or-replicate, get_or_past}
 use Rattle.std.proofs.lemmas.Bool.{eq-eqb, ne_eqb, cases_eq, cases_lt, cond-true, cond-false, le-leb, lt-leb}
 use Rattle.std.proofs.lemmas.Bool.Decides.{nat_tests}
 use Rattle.std.proofs.lemmas.Int.{ints}
 use Rattle.plant.specs.Limits.{most_tanks}
 use Rattle.words.specs.Words.{kind, field, words}
-use Rattle.words.specs.Left.{left}
-use Rattle.words.specs.declared.reader.Reader.{Reader}
+use Rattle.words.specs.Placed.{placed}
+use Rattle.words.specs.declared.word.Word.{Word}
 use Rattle.paper.specs.Limits.{most_evidence_words}
 use Rattle.barriers.specs.Lines.{Line, no_line}
 use Rattle.lines.specs.Limits.{most_weight_sum}
 use Rattle.barrier_paper.specs.Document.{signed, weight_said}
 use Rattle.barrier_paper.specs.Windows.{word_weight, part_weight, part_line, line_said}
+
+-- words without their places
+abbrev pub bits : List Word → List ℕ
+bits ws = map (λ w. w.bits) ws
+
+pub bits_placed : (at : ℕ) (ws : List ℕ) → bits (placed at ws) ≡ ws
+bits_placed at [] = refl
+bits_placed at (w ∷ ws) = ap (λ vs. w ∷ vs) (bits_placed (at + 1) ws)
 
 -- how large a word's weight and a part's can be
 signed_small : (w : ℕ) → nat_abs (signed (weight_said w)) ≤ 16383
@@ -72,9 +80,6 @@ none a v e = omega (arith, ints)
 pub started : (k r : ℕ) (ws : List ℕ) → r < most_tanks → get_or (replicate most_tanks (pos 0)) r (pos 0) +ℤ part_weight k ws r ≡ part_weight k ws r
 started k r ws h = none (get_or (replicate most_tanks (pos 0)) r (pos 0)) (part_weight k ws r) (get_or-replicate most_tanks r (pos 0) (pos 0) h)
 
-pub start_left : (rd : Reader) (bs : List ℕ) → rd.at ≡ 0 → rd.bytes.now ≡ bs → left rd ≡ words bs
-start_left rd bs a b = ap (λ n. drop n (words rd.bytes.now)) a ∙ ap words b
-
 -- at the end nothing is left
 pub summed : (x all : ℤ) → x +ℤ pos 0 ≡ all → x ≡ all
 summed x all e = omega (arith, ints)
@@ -94,17 +99,6 @@ everywhere k ws out long inside r =
     (λ (h : r < most_tanks). inside r h)
     (λ (h : most_tanks ≤ r). get_or_past out r (pos 0) (omega arith) ∙ sym (beyond k ws r h))
     (cases_lt r most_tanks)
-
--- a table of zeros
-pub zeros : (r : ℕ) → get_or (replicate most_tanks (pos 0)) r (pos 0) ≡ pos 0
-zeros r =
-    ⊎_elim
-    (λ (h : r < most_tanks). get_or-replicate most_tanks r (pos 0) (pos 0) h)
-    (λ (h : most_tanks ≤ r). get_or_past (replicate most_tanks (pos 0)) r (pos 0) (omega (arith, length-replicate most_tanks (pos 0))))
-    (cases_lt r most_tanks)
-
-pub zeros_small : (r : ℕ) → nat_abs (get_or (replicate most_tanks (pos 0)) r (pos 0)) ≤ most_weight_sum
-zeros_small r = rw (zeros r) (omega arith)
 
 -- two lines with the same weights and the same strictness are one
 pub same_line : (a b : Line) → ((r : ℕ) → a.left r ≡ b.left r) → ((r : ℕ) → a.right r ≡ b.right r) → a.strict ≡ b.strict → a ≡ b

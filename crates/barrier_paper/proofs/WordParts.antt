@@ -24,12 +24,12 @@ pub record WeightWord (k tanks least w : ℕ) : Type 0 where
   pub few : field w 0 14 ≤ most_line_weight
   pub rises : least ≤ field w 22 6
 
-pub record StepWord (last valves least w : ℕ) : Type 0 where
+pub record StepWord (cases valves least w : ℕ) : Type 0 where
   pub kind_is : kind w ≡ 10
   pub plain : field w 0 13 ≡ 0
-  pub from_there : field w 23 4 ≤ last
+  pub from_there : field w 23 4 < cases
   pub valve_there : field w 17 6 < valves
-  pub to_there : field w 13 4 ≤ last
+  pub to_there : field w 13 4 < cases
   pub rises : least ≤ field w 17 11
 
 pub record MatchWord (lines w : ℕ) : Type 0 where
@@ -213,9 +213,9 @@ step_word_says s from valve to =
     let same : step_said (step_head s) s.matches ≡ record { way = s.way; from = s.from; valve = s.valve; to = s.to; matches = s.matches } = cc in
     record { kind_is = p.kind_is; step_is = same; key_is = p.key_is }
 
--- it is good where its cases are at most `last`
-pub step_good : (last valves least : ℕ) (s : Step) → last < most_cases → s.from ≤ last → s.valve < valves → s.valve < most_valves → s.to ≤ last → least ≤ step_key s → StepWord last valves least (step_head s)
-step_good last valves least s few from valve small to h =
+-- it is good where its cases are there
+pub step_good : (cases valves least : ℕ) (s : Step) → cases ≤ most_cases → s.from < cases → s.valve < valves → s.valve < most_valves → s.to < cases → least ≤ step_key s → StepWord cases valves least (step_head s)
+step_good cases valves least s few from valve small to h =
     let p = step_parts s (omega arith) small (omega arith) in
     record {
       kind_is = p.kind_is;
@@ -226,8 +226,8 @@ step_good last valves least s few from valve small to h =
       rises = rw p.key_is h;
     }
 
-pub step_written : (last valves least w : ℕ) (ms : List Match) → StepWord last valves least w → w ≡ step_head (step_said w ms)
-step_written last valves least w ms h = rw (way_back (field w 27 1) (omega arith)) (step_apart w h.kind_is h.plain)
+pub step_written : (cases valves least w : ℕ) (ms : List Match) → StepWord cases valves least w → w ≡ step_head (step_said w ms)
+step_written cases valves least w ms h = rw (way_back (field w 27 1) (omega arith)) (step_apart w h.kind_is h.plain)
 
 pub key_said : (w : ℕ) (ms : List Match) → step_key (step_said w ms) ≡ field w 17 11
 key_said w ms = rw (way_back (field w 27 1) (omega arith)) (sym (key_apart w))

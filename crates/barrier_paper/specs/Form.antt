@@ -1,5 +1,5 @@
 -- The form of a barrier paper, word by word: cases with their lines and weights, then steps with their matches.
-use Rattle.std.specs.Prelude.{ℕ, ◌+◌, ◌-◌, cond, ◌&&◌, List, length, replicate, Ok, Err, Result, ◌==◌, nat_le, nat_lt, slice_index, slice_set}
+use Rattle.std.specs.Prelude.{ℕ, ◌+◌, ◌-◌, cond, ◌&&◌, List, [], ◌∷◌, ◌++◌, length, Ok, Err, Result, ◌==◌, nat_le, nat_lt, slice_index, slice_set}
 use Rattle.words.specs.declared.faults.PaperFault.{PaperFault}
 use Rattle.words.specs.declared.faults.PaperFault.TheVariants.{Kind, Unnamed, Limit, Order, Count, Due}
 use Rattle.words.specs.Words.{words, kind, field}
@@ -8,34 +8,43 @@ use Rattle.paper.specs.Limits.{most_evidence_words}
 use Rattle.paper.specs.Runs.{whole}
 use Rattle.barrier_paper.specs.declared.form.Phase.{Phase}
 use Rattle.barrier_paper.specs.declared.form.Phase.TheVariants.{Start, Case, Left, Right, Steps, Matches}
+use Rattle.barrier_paper.specs.declared.form.Pending.{Pending}
 use Rattle.barrier_paper.specs.declared.form.BarrierForm.{BarrierForm}
 use Rattle.barrier_paper.specs.Limits.{most_cases, most_lines, most_line_weight}
 use Rattle.barrier_paper.specs.Document.{BarrierDocument, barrier_document}
 
 abbrev pub start : ℕ → ℕ → BarrierForm
-start tanks valves = record { tanks = tanks; valves = valves; phase = Start; last = 0; lines = replicate most_cases 0 }
+start tanks valves = record { counts = record { tanks = tanks; valves = valves }; phase = Start; lines = record { items = [] } }
 
 -- the same form in another phase
 abbrev pub in_phase : Phase → BarrierForm → BarrierForm
-in_phase phase s = record { tanks = s.tanks; valves = s.valves; phase = phase; last = s.last; lines = s.lines }
+in_phase phase s = record { counts = s.counts; phase = phase; lines = s.lines }
 
--- the first case, and a further one
-abbrev pub first_case : BarrierForm → ℕ → ℕ → Result BarrierForm PaperFault
-first_case s at w =
-    need (field w 0 28 == 0) (Unnamed at) (
-    Ok (in_phase Case s))
+-- one more case, which has no line yet
+abbrev pub after_case : BarrierForm → BarrierForm
+after_case s = record { counts = s.counts; phase = Case; lines = record { items = s.lines.items ++ 0 ∷ [] } }
 
-abbrev pub next_case : BarrierForm → ℕ → ℕ → Result BarrierForm PaperFault
-next_case s at w =
+abbrev pub case : BarrierForm → ℕ → ℕ → Result BarrierForm PaperFault
+case s at w =
     need (field w 0 28 == 0) (Unnamed at) (
-    need (nat_lt (s.last + 1) most_cases) (Count at) (
-    Ok (record { tanks = s.tanks; valves = s.valves; phase = Case; last = s.last + 1; lines = s.lines })))
+    need (nat_lt (length s.lines.items) most_cases) (Count at) (
+    Ok (after_case s)))
+
+-- so many more lines for the last case
+abbrev pub last : List ℕ → ℕ
+last table = length table - 1
+
+abbrev pub longer : List ℕ → ℕ → List ℕ
+longer table n = slice_set table (last table) (slice_index table (last table) + n)
+
+abbrev pub after_line : BarrierForm → BarrierForm
+after_line s = record { counts = s.counts; phase = Left 0; lines = record { items = longer s.lines.items 1 } }
 
 abbrev pub line : BarrierForm → ℕ → ℕ → Result BarrierForm PaperFault
 line s at w =
     need (field w 1 27 == 0) (Unnamed at) (
-    need (nat_lt (slice_index s.lines s.last) most_lines) (Count at) (
-    Ok (record { tanks = s.tanks; valves = s.valves; phase = Left 0; last = s.last; lines = slice_set s.lines s.last (slice_index s.lines s.last + 1) })))
+    need (nat_lt (slice_index s.lines.items (last s.lines.items)) most_lines) (Count at) (
+    Ok (after_line s)))
 
 -- what a weight word has to keep on a plant with so many tanks, its tank not below `least`
 abbrev pub weight_checked : ℕ → ℕ → ℕ → ℕ → Result (Unit {0}) PaperFault
@@ -47,47 +56,54 @@ weight_checked least tanks at w =
 
 -- a weight, left or right: `then` is the phase after it, with the least that the next tank may be
 abbrev pub weight : (ℕ → Phase) → ℕ → BarrierForm → ℕ → ℕ → Result BarrierForm PaperFault
-weight then least s at w = onward (weight_checked least s.tanks at w) (λ _. Ok (in_phase (then (field w 22 6 + 1)) s))
+weight then least s at w = onward (weight_checked least s.counts.tanks at w) (λ _. Ok (in_phase (then (field w 22 6 + 1)) s))
 
--- the phase while so many matches are due, each naming one of so many lines
-abbrev pub waiting : ℕ → ℕ → ℕ → Phase
-waiting due lines least = cond (due == 0) (Steps least) (Matches due lines least)
+-- the phase while matches are to come, and where none are
+abbrev pub waiting : Pending → Phase
+waiting p = cond (p.matches == 0) (Steps p.least) (Matches p)
+
+-- the matches of a step: one for each line of the case reached, naming a line of the case left
+abbrev pub after_step : BarrierForm → ℕ → Pending
+after_step s w = record { matches = slice_index s.lines.items (field w 13 4); lines = slice_index s.lines.items (field w 23 4); least = field w 17 11 + 1 }
 
 abbrev pub step : ℕ → BarrierForm → ℕ → ℕ → Result BarrierForm PaperFault
 step least s at w =
     need (field w 0 13 == 0) (Unnamed at) (
-    need (nat_le (field w 23 4) s.last && (nat_lt (field w 17 6) s.valves && nat_le (field w 13 4) s.last)) (Limit at) (
+    need (nat_lt (field w 23 4) (length s.lines.items) && (nat_lt (field w 17 6) s.counts.valves && nat_lt (field w 13 4) (length s.lines.items))) (Limit at) (
     need (nat_le least (field w 17 11)) (Order at) (
-    Ok (in_phase (waiting (slice_index s.lines (field w 13 4)) (slice_index s.lines (field w 23 4)) (field w 17 11 + 1)) s))))
+    Ok (in_phase (waiting (after_step s w)) s))))
 
-abbrev pub match : ℕ → ℕ → ℕ → BarrierForm → ℕ → ℕ → Result BarrierForm PaperFault
-match due lines least s at w =
-    need (nat_lt (field w 24 4) lines) (Limit at) (
-    Ok (in_phase (waiting (due - 1) lines least) s))
+abbrev pub after_match : Pending → Pending
+after_match p = record { matches = p.matches - 1; lines = p.lines; least = p.least }
+
+abbrev pub match : Pending → BarrierForm → ℕ → ℕ → Result BarrierForm PaperFault
+match p s at w =
+    need (nat_lt (field w 24 4) p.lines) (Limit at) (
+    Ok (in_phase (waiting (after_match p)) s))
 
 -- what comes after one more word, at the place `at`
 abbrev pub by_phase : Phase → BarrierForm → ℕ → ℕ → Result BarrierForm PaperFault
 by_phase Start s at w =
-    cond (kind w == 6) (first_case s at w) (Err (Kind at))
+    cond (kind w == 6) (case s at w) (Err (Kind at))
 by_phase Case s at w =
-    cond (kind w == 6) (next_case s at w) (
+    cond (kind w == 6) (case s at w) (
     cond (kind w == 7) (line s at w) (
     cond (kind w == 10) (step 0 s at w) (Err (Kind at))))
 by_phase (Left least) s at w =
-    cond (kind w == 6) (next_case s at w) (
+    cond (kind w == 6) (case s at w) (
     cond (kind w == 7) (line s at w) (
     cond (kind w == 8) (weight Left least s at w) (
     cond (kind w == 9) (weight Right 0 s at w) (
     cond (kind w == 10) (step 0 s at w) (Err (Kind at))))))
 by_phase (Right least) s at w =
-    cond (kind w == 6) (next_case s at w) (
+    cond (kind w == 6) (case s at w) (
     cond (kind w == 7) (line s at w) (
     cond (kind w == 9) (weight Right least s at w) (
     cond (kind w == 10) (step 0 s at w) (Err (Kind at)))))
 by_phase (Steps least) s at w =
     cond (kind w == 10) (step least s at w) (Err (Kind at))
-by_phase (Matches due lines least) s at w =
-    cond (kind w == 11) (match due lines least s at w) (Err (Kind at))
+by_phase (Matches p) s at w =
+    cond (kind w == 11) (match p s at w) (Err (Kind at))
 
 abbrev pub barrier_step : BarrierForm → ℕ → ℕ → Result BarrierForm PaperFault
 barrier_step s at w = by_phase s.phase s at w
@@ -99,7 +115,7 @@ ended Case at = Ok tt
 ended (Left least) at = Ok tt
 ended (Right least) at = Ok tt
 ended (Steps least) at = Ok tt
-ended (Matches due lines least) at = Err (Due at)
+ended (Matches p) at = Err (Due at)
 
 -- on a plant with so many tanks and valves
 abbrev pub barrier_form : ℕ → ℕ → List ℕ → Result BarrierForm PaperFault

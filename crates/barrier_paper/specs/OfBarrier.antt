@@ -1,8 +1,7 @@
 -- The document that a barrier paper is.
-use Rattle.std.specs.Prelude.{◌≡◌, ◌*◌, ◌≤◌, length, Ok, Err, Result}
+use Rattle.std.specs.Prelude.{Ok, Err, Result}
 use Rattle.words.specs.Words.{words}
 use Rattle.words.specs.declared.faults.PaperFault.{PaperFault}
-use Rattle.paper.specs.Limits.{most_evidence_words}
 use Rattle.barrier_paper.specs.declared.barrier_paper.BarrierPaper.{BarrierPaper}
 use Rattle.barrier_paper.specs.Document.{BarrierDocument, barrier_document}
 
@@ -13,11 +12,3 @@ barrier_said x = barrier_document (words x.bytes.now)
 abbrev pub barrier_answer : Result BarrierPaper PaperFault → Result BarrierDocument PaperFault
 barrier_answer (Ok x) = Ok (barrier_said x)
 barrier_answer (Err e) = Err e
-
--- a paper with some words and with few enough
-abbrev pub Sized : BarrierPaper → Type 0
-Sized x = (4 ≤ length x.bytes.now) × (length x.bytes.now ≤ 4 * most_evidence_words)
-
--- a paper that knows how many cases it has
-abbrev pub Counted : BarrierPaper → Type 0
-Counted x = x.cases ≡ length (barrier_said x).cases

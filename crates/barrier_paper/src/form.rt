@@ -1,12 +1,21 @@
 // The form of a barrier paper.
-ghost use Rattle.std.specs.Prelude.{◌≡◌, ◌+◌, slice_index, slice_set};
+ghost use Rattle.std.specs.Prelude.{◌≡◌, ℕ, slice_index};
 ghost use Rattle.barrier_paper.specs.Form as spec;
-ghost use Rattle.barrier_paper.specs.declared.form.Phase.TheVariants.{Left as AtLeft, Right as AtRight};
+ghost use Rattle.barrier_paper.specs.declared.form.Phase.{Phase as Phases};
 
 use crate::limits::{MOST_CASES, MOST_LINE_WEIGHT, MOST_LINES};
+use arrayvec::ArrayVec;
 use paper::form::Form;
-use words::PaperFault;
-use words::word::{field_of, kind_of};
+use plant::Counts;
+use words::{Kind, PaperFault, Word};
+
+// The matches that are still to come, each naming one of so many lines, and the least that the next step may be.
+#[derive(Clone, Copy, Debug, PartialEq)]
+pub struct Pending {
+    pub matches: usize,
+    pub lines: usize,
+    pub least: u32,
+}
 
 // Where the reading stands. `least` is the least that the next tank, or the next step's direction, case and valve, may be.
 #[derive(Clone, Copy, Debug, PartialEq)]
@@ -16,197 +25,149 @@ pub enum Phase {
     Left { least: u32 },
     Right { least: u32 },
     Steps { least: u32 },
-    Matches { due: u8, lines: u8, least: u32 },
+    Matches(Pending),
 }
 
-// The phase, the number of the last case, how many lines each case has, and the plant's counts.
-#[derive(Clone, Copy, Debug)]
+impl Pending {
+    fn phase(self) -> Phase
+        ensures { result ≡ spec.waiting self }
+    {
+        if self.matches == 0 {
+            Phase::Steps { least: self.least }
+        } else {
+            Phase::Matches(self)
+        }
+    }
+}
+
+// The plant's counts, the phase, and how many lines each case has so far.
+#[derive(Debug, Drop)]
 pub struct BarrierForm {
-    pub tanks: usize,
-    pub valves: usize,
+    pub counts: Counts,
     pub phase: Phase,
-    pub last: usize,
-    pub lines: [u8; MOST_CASES],
-}
-
-// The phase while so many matches are due, each naming one of so many lines.
-fn waiting(due: u8, lines: u8, least: u32) -> Phase
-    ensures { result ≡ spec.waiting due lines least }
-{
-    if due == 0 {
-        Phase::Steps { least }
-    } else {
-        Phase::Matches { due, lines, least }
-    }
-}
-
-// The table with another count for one case.
-fn with_count(mut lines: [u8; MOST_CASES], case: usize, count: u8) -> [u8; MOST_CASES]
-    ensures { result ≡ slice_set lines case count }
-{
-    if case < MOST_CASES {
-        lines[case] = count;
-    }
-    lines
+    pub lines: ArrayVec<usize, MOST_CASES>,
 }
 
 impl BarrierForm {
-    // Before the first word of a paper on a plant with so many tanks and valves.
-    pub fn start(tanks: usize, valves: usize) -> BarrierForm
-        ensures { result ≡ spec.start tanks valves }
+    // Before the first word of a paper on a plant with these counts.
+    pub fn start(counts: Counts) -> BarrierForm
+        ensures { result ≡ spec.start counts.tanks counts.valves }
     {
         BarrierForm {
-            tanks,
-            valves,
+            counts,
             phase: Phase::Start,
-            last: 0,
-            lines: [0; MOST_CASES],
+            lines: ArrayVec::new(),
         }
     }
 
     // How many lines a case has so far.
-    fn lines_of(&self, case: usize) -> u8
-        ensures { result ≡ slice_index self.now.lines case }
+    fn lines_of(&self, case: usize) -> usize
+        ensures { result ≡ slice_index self.now.lines.items case }
     {
-        if case < MOST_CASES {
-            self.lines[case]
-        } else {
-            0
-        }
+        self.lines.get(case).copied().unwrap_or(0)
     }
-}
 
-impl BarrierForm {
-    // The same form in another phase.
     fn in_phase(self, phase: Phase) -> BarrierForm
         ensures { result ≡ spec.in_phase phase self }
     {
-        let lines = self.lines;
-        BarrierForm {
-            tanks: self.tanks,
-            valves: self.valves,
-            phase,
-            last: self.last,
-            lines,
-        }
+        BarrierForm { phase, ..self }
     }
 
-    fn first_case(self, at: usize, w: u32) -> Result<BarrierForm, PaperFault>
-        ensures { result ≡ spec.first_case self at w }
+    fn case(mut self, word: Word) -> Result<BarrierForm, PaperFault>
+        ensures { result ≡ spec.case self word.place word.bits }
     {
-        if field_of(w, 0, 28) != 0 {
-            return Err(PaperFault::Unnamed(at));
+        if word.field(0, 28) != 0 {
+            return Err(PaperFault::Unnamed(word.place));
         }
+        self.lines
+            .try_push(0)
+            .map_err(|_| PaperFault::Count(word.place))?;
         Ok(self.in_phase(Phase::Case))
     }
 
-    fn next_case(self, at: usize, w: u32) -> Result<BarrierForm, PaperFault>
-        ensures { result ≡ spec.next_case self at w }
+    fn line(mut self, word: Word) -> Result<BarrierForm, PaperFault>
+        ensures { result ≡ spec.line self word.place word.bits }
     {
-        if field_of(w, 0, 28) != 0 {
-            return Err(PaperFault::Unnamed(at));
+        if word.field(1, 27) != 0 {
+            return Err(PaperFault::Unnamed(word.place));
         }
-        if self.last >= MOST_CASES - 1 {
-            return Err(PaperFault::Count(at));
+        if let Some(count) = self.lines.last_mut() {
+            if *count >= MOST_LINES {
+                return Err(PaperFault::Count(word.place));
+            }
+            *count += 1;
         }
-        let lines = self.lines;
-        Ok(BarrierForm {
-            tanks: self.tanks,
-            valves: self.valves,
-            phase: Phase::Case,
-            last: self.last + 1,
-            lines,
-        })
-    }
-
-    fn line(self, at: usize, w: u32) -> Result<BarrierForm, PaperFault>
-        ensures { result ≡ spec.line self at w }
-    {
-        if field_of(w, 1, 27) != 0 {
-            return Err(PaperFault::Unnamed(at));
-        }
-        let count = self.lines_of(self.last);
-        if count >= MOST_LINES {
-            return Err(PaperFault::Count(at));
-        }
-        let lines = with_count(self.lines, self.last, count + 1);
-        Ok(BarrierForm {
-            tanks: self.tanks,
-            valves: self.valves,
-            phase: Phase::Left { least: 0 },
-            last: self.last,
-            lines,
-        })
+        Ok(self.in_phase(Phase::Left { least: 0 }))
     }
 
     // What refuses a weight word.
-    fn check_weight(&self, least: u32, at: usize, w: u32) -> Result<(), PaperFault>
-        ensures { result ≡ spec.weight_checked least self.now.tanks at w }
+    fn check_weight(&self, least: u32, word: Word) -> Result<(), PaperFault>
+        ensures { result ≡ spec.weight_checked least self.now.counts.tanks word.place word.bits }
     {
-        let tank = field_of(w, 22, 6);
-        let size = field_of(w, 0, 14);
-        if field_of(w, 15, 7) != 0 {
-            return Err(PaperFault::Unnamed(at));
+        let tank = word.field(22, 6);
+        let size = word.field(0, 14);
+        if word.field(15, 7) != 0 {
+            return Err(PaperFault::Unnamed(word.place));
         }
-        if tank as usize >= self.tanks || size < 1 || size > MOST_LINE_WEIGHT {
-            return Err(PaperFault::Limit(at));
+        if tank as usize >= self.counts.tanks || size < 1 || size > MOST_LINE_WEIGHT {
+            return Err(PaperFault::Limit(word.place));
         }
         if tank < least {
-            return Err(PaperFault::Order(at));
+            return Err(PaperFault::Order(word.place));
         }
         Ok(())
     }
 
-    fn left(self, least: u32, at: usize, w: u32) -> Result<BarrierForm, PaperFault>
-        ensures { result ≡ spec.weight AtLeft least self at w }
+    // A weight, left or right: `then` is the phase after it, with the least that the next tank may be.
+    fn weight<F: FnOnce(u32) -> Phase>(
+        self,
+        then: F,
+        least: u32,
+        word: Word,
+    ) -> Result<BarrierForm, PaperFault>
+        requires { F.IsAlwaysCallable then }
+        ensures { (phase : ℕ → Phases) → ((n : ℕ) (p : Phases) → F.post then n p → p ≡ phase n) → result ≡ spec.weight phase least self word.place word.bits }
     {
-        self.check_weight(least, at, w)?;
-        Ok(self.in_phase(Phase::Left {
-            least: field_of(w, 22, 6) + 1,
-        }))
+        self.check_weight(least, word)?;
+        Ok(self.in_phase(then(word.field(22, 6) + 1)))
     }
 
-    fn right(self, least: u32, at: usize, w: u32) -> Result<BarrierForm, PaperFault>
-        ensures { result ≡ spec.weight AtRight least self at w }
+    fn step(self, least: u32, word: Word) -> Result<BarrierForm, PaperFault>
+        ensures { result ≡ spec.step least self word.place word.bits }
     {
-        self.check_weight(least, at, w)?;
-        Ok(self.in_phase(Phase::Right {
-            least: field_of(w, 22, 6) + 1,
-        }))
-    }
-
-    fn step(self, least: u32, at: usize, w: u32) -> Result<BarrierForm, PaperFault>
-        ensures { result ≡ spec.step least self at w }
-    {
-        let from = field_of(w, 23, 4) as usize;
-        let to = field_of(w, 13, 4) as usize;
-        let key = field_of(w, 17, 11);
-        if field_of(w, 0, 13) != 0 {
-            return Err(PaperFault::Unnamed(at));
+        let from = word.field(23, 4) as usize;
+        let valve = word.field(17, 6) as usize;
+        let to = word.field(13, 4) as usize;
+        let key = word.field(17, 11);
+        let cases = self.lines.len();
+        if word.field(0, 13) != 0 {
+            return Err(PaperFault::Unnamed(word.place));
         }
-        if from > self.last || field_of(w, 17, 6) as usize >= self.valves || to > self.last {
-            return Err(PaperFault::Limit(at));
+        if from >= cases || valve >= self.counts.valves || to >= cases {
+            return Err(PaperFault::Limit(word.place));
         }
         if key < least {
-            return Err(PaperFault::Order(at));
+            return Err(PaperFault::Order(word.place));
         }
-        Ok(self.in_phase(waiting(self.lines_of(to), self.lines_of(from), key + 1)))
+        let pending = Pending {
+            matches: self.lines_of(to),
+            lines: self.lines_of(from),
+            least: key + 1,
+        };
+        Ok(self.in_phase(pending.phase()))
     }
 
-    fn take_match(
-        self,
-        due: u8,
-        lines: u8,
-        least: u32,
-        at: usize,
-        w: u32,
-    ) -> Result<BarrierForm, PaperFault>
-        ensures { result ≡ spec.match due lines least self at w }
+    fn take_match(self, pending: Pending, word: Word) -> Result<BarrierForm, PaperFault>
+        ensures { result ≡ spec.match pending self word.place word.bits }
     {
-        if field_of(w, 24, 4) >= lines as u32 {
-            return Err(PaperFault::Limit(at));
+        if word.field(24, 4) as usize >= pending.lines {
+            return Err(PaperFault::Limit(word.place));
         }
-        Ok(self.in_phase(waiting(due.saturating_sub(1), lines, least)))
+        let rest = Pending {
+            matches: pending.matches.saturating_sub(1),
+            ..pending
+        };
+        Ok(self.in_phase(rest.phase()))
     }
 
     // At the end of the paper, `at`, no match may be due.
@@ -214,7 +175,7 @@ impl BarrierForm {
         ensures { result ≡ spec.ended self.now.phase at }
     {
         match self.phase {
-            Phase::Matches { .. } => Err(PaperFault::Due(at)),
+            Phase::Matches(_) => Err(PaperFault::Due(at)),
             _ => Ok(()),
         }
     }
@@ -223,18 +184,27 @@ impl BarrierForm {
 impl Form for BarrierForm {
     ghost stepped = { λ s at w. spec.barrier_step s at w };
 
-    fn advance(self, at: usize, w: u32) -> Result<BarrierForm, PaperFault> {
-        match (self.phase, kind_of(w)) {
-            (Phase::Start, 6) => self.first_case(at, w),
-            (Phase::Case | Phase::Left { .. } | Phase::Right { .. }, 6) => self.next_case(at, w),
-            (Phase::Case | Phase::Left { .. } | Phase::Right { .. }, 7) => self.line(at, w),
-            (Phase::Left { least }, 8) => self.left(least, at, w),
-            (Phase::Left { .. }, 9) => self.right(0, at, w),
-            (Phase::Right { least }, 9) => self.right(least, at, w),
-            (Phase::Case | Phase::Left { .. } | Phase::Right { .. }, 10) => self.step(0, at, w),
-            (Phase::Steps { least }, 10) => self.step(least, at, w),
-            (Phase::Matches { due, lines, least }, 11) => self.take_match(due, lines, least, at, w),
-            _ => Err(PaperFault::Kind(at)),
+    fn advance(self, word: Word) -> Result<BarrierForm, PaperFault> {
+        let kind = word.kind().ok_or(PaperFault::Kind(word.place))?;
+        match (self.phase, kind) {
+            (Phase::Start | Phase::Case | Phase::Left { .. } | Phase::Right { .. }, Kind::Case) =>
+                self.case(word),
+            (Phase::Case | Phase::Left { .. } | Phase::Right { .. }, Kind::Line) => self.line(word),
+            (Phase::Left { least }, Kind::Left) => {
+                self.weight(|least| Phase::Left { least }, least, word)
+            }
+            (Phase::Left { .. }, Kind::Right) => {
+                self.weight(|least| Phase::Right { least }, 0, word)
+            }
+            (Phase::Right { least }, Kind::Right) => {
+                self.weight(|least| Phase::Right { least }, least, word)
+            }
+            (Phase::Case | Phase::Left { .. } | Phase::Right { .. }, Kind::Step) => {
+                self.step(0, word)
+            }
+            (Phase::Steps { least }, Kind::Step) => self.step(least, word),
+            (Phase::Matches(pending), Kind::Match) => self.take_match(pending, word),
+            _ => Err(PaperFault::Kind(word.place)),
         }
     }
 }

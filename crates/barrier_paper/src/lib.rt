@@ -5,7 +5,6 @@ pub mod barrier_paper;
 pub mod exact;
 pub mod form;
 pub mod limits;
-pub mod reading;
 pub mod step_words;
 pub mod weights;
 pub mod windows;

@@ -6,7 +6,7 @@ use words::{Part, Refusal};
 
 // A barrier that shows nothing: it does not hold of (source, source) or of (target, target), or it holds of (source, target);
 // a step is missing, by its direction, case and valve in one number; or a match is not good, by its word.
-#[derive(Clone, Copy, Debug, PartialEq)]
+#[derive(Clone, Copy, Debug, PartialEq, Eq)]
 pub enum BarrierFault {
     FailsSource,
     FailsTarget,
@@ -15,11 +15,11 @@ pub enum BarrierFault {
     BadMatch(usize),
 }
 
-impl BarrierFault {
-    pub fn refusal(self) -> Refusal
-        ensures { result ≡ of_barrier self }
-    {
-        let (number, place) = match self {
+impl From<BarrierFault> for Refusal {
+    ghost from_gives = { λ x y. y ≡ of_barrier x };
+
+    fn from(fault: BarrierFault) -> Refusal {
+        let (number, place) = match fault {
             BarrierFault::FailsSource => (16, 0),
             BarrierFault::FailsTarget => (17, 0),
             BarrierFault::HoldsAcross => (18, 0),

@@ -4,10 +4,8 @@ ghost use Rattle.lines.specs.OfValve.{ReadFrom};
 
 use crate::amounts::Table;
 use plant::Plant;
+use plant::limits::MOST_WEIGHT;
 use std::array;
-
-// The largest intake or outlet weight; the plant's specs/Limits.antt has the same number.
-pub const MOST_WEIGHT: u32 = 1023;
 
 // The weights of a valve, read from a plant once.
 #[derive(Drop)]

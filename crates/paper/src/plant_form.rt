@@ -10,7 +10,7 @@ use plant::limits::{MOST_TANKS, MOST_VALVES};
 use words::{Kind, PaperFault, Word};
 
 // Before the head, or after it: the counts, and the least that the next arc's kind, valve and tank may be.
-#[derive(Clone, Copy, Debug, PartialEq)]
+#[derive(Clone, Copy, Debug, PartialEq, Eq)]
 pub enum PlantForm {
     Head,
     Arcs { counts: Counts, least: u32 },
@@ -26,7 +26,7 @@ fn take_head(word: Word) -> Result<PlantForm, PaperFault>
     if word.field(14, 14) != 0 {
         return Err(PaperFault::Unnamed(word.place));
     }
-    if tanks < 1 || tanks > MOST_TANKS || valves < 1 || valves > MOST_VALVES {
+    if !(1..=MOST_TANKS).contains(&tanks) || !(1..=MOST_VALVES).contains(&valves) {
         return Err(PaperFault::Limit(word.place));
     }
     Ok(PlantForm::Arcs {

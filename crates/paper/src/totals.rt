@@ -13,7 +13,7 @@ use words::word::word_at;
 use words::{PaperFault, Reader, Word};
 
 // A valve and how much it is fired in all.
-#[derive(Clone, Copy, Debug, PartialEq)]
+#[derive(Clone, Copy, Debug, PartialEq, Eq)]
 pub struct Total {
     pub valve: usize,
     pub amount: u32,

@@ -9,7 +9,7 @@ use crate::limits::{MOST_DIVISOR, MOST_TOTAL};
 use words::{Kind, PaperFault, Word};
 
 // Before the head, or after it: then the next total's valve is at least `least`. The plant has `valves` valves.
-#[derive(Clone, Copy, Debug, PartialEq)]
+#[derive(Clone, Copy, Debug, PartialEq, Eq)]
 pub enum TotalsForm {
     Head { valves: usize },
     Totals { valves: usize, least: u32 },
@@ -24,7 +24,7 @@ fn take_head(valves: usize, word: Word) -> Result<TotalsForm, PaperFault>
     if word.field(20, 8) != 0 {
         return Err(PaperFault::Unnamed(word.place));
     }
-    if divisor < 1 || divisor > MOST_DIVISOR {
+    if !(1..=MOST_DIVISOR).contains(&divisor) {
         return Err(PaperFault::Limit(word.place));
     }
     Ok(TotalsForm::Totals { valves, least: 0 })
@@ -40,7 +40,7 @@ fn take_total(valves: usize, least: u32, word: Word) -> Result<TotalsForm, Paper
     if word.field(20, 2) != 0 {
         return Err(PaperFault::Unnamed(word.place));
     }
-    if valve as usize >= valves || total < 1 || total > MOST_TOTAL {
+    if valve as usize >= valves || !(1..=MOST_TOTAL).contains(&total) {
         return Err(PaperFault::Limit(word.place));
     }
     if valve < least {

@@ -11,28 +11,28 @@ pub record First (n : ℕ) (p : ℕ → Bool) (k : ℕ) : Type 0 where
   pub least : (t : ℕ) → t < k → p t ≡ false
 
 module _ (p : ℕ → Bool) where
-  -- what a search below n may answer
-  abbrev pub Answers : ℕ → Option ℕ → Type 0
-  Answers n r = MatchOption r ((t : ℕ) → t < n → p t ≡ false) (First n p)
+  -- what a search below n may find
+  abbrev pub Found : ℕ → Option ℕ → Type 0
+  Found n r = MatchOption r ((t : ℕ) → t < n → p t ≡ false) (First n p)
 
-  answers_more : (n : ℕ) (r : Option ℕ) (b : Bool) → b ≡ p n → Answers n r → Answers (suc n) (option_or r (cond b (Some n) None))
-  answers_more n None true e h = record { below = omega arith; passes = sym e; least = h }
-  answers_more n None false e h = λ t l. grind (arith, h t)
-  answers_more n (Some k) b e f = record { below = omega (arith, f.below); passes = f.passes; least = f.least }
+  found_more : (n : ℕ) (r : Option ℕ) (b : Bool) → b ≡ p n → Found n r → Found (suc n) (option_or r (cond b (Some n) None))
+  found_more n None true e h = record { below = omega arith; passes = sym e; least = h }
+  found_more n None false e h = λ t l. grind (arith, h t)
+  found_more n (Some k) b e f = record { below = omega (arith, f.below); passes = f.passes; least = f.least }
 
-  answers : (n : ℕ) → Answers n (first_below n p)
-  answers zero = λ t l. absurd (omega arith)
-  answers (suc n) = answers_more n (first_below n p) (p n) refl (answers n)
+  found : (n : ℕ) → Found n (first_below n p)
+  found zero = λ t l. absurd (omega arith)
+  found (suc n) = found_more n (first_below n p) (p n) refl (found n)
 
-  -- there is one answer alone
-  answers_same : (n : ℕ) (r s : Option ℕ) → Answers n r → Answers n s → r ≡ s
-  answers_same n None None h i = refl
-  answers_same n None (Some k) h f = grind (arith, h k, f.below, f.passes)
-  answers_same n (Some k) None f h = grind (arith, h k, f.below, f.passes)
-  answers_same n (Some j) (Some k) f g = grind (arith, f.passes, g.passes, f.least k, g.least j)
+  -- and it finds one thing alone
+  found_same : (n : ℕ) (r s : Option ℕ) → Found n r → Found n s → r ≡ s
+  found_same n None None h i = refl
+  found_same n None (Some k) h f = grind (arith, h k, f.below, f.passes)
+  found_same n (Some k) None f h = grind (arith, h k, f.below, f.passes)
+  found_same n (Some j) (Some k) f g = grind (arith, f.passes, g.passes, f.least k, g.least j)
 
-  pub first_is : (n : ℕ) (r : Option ℕ) → Answers n r → r ≡ first_below n p
-  first_is n r h = answers_same n r (first_below n p) h (answers n)
+  pub first_is : (n : ℕ) (r : Option ℕ) → Found n r → r ≡ first_below n p
+  first_is n r h = found_same n r (first_below n p) h (found n)
 
   pub first_none : (n : ℕ) → ((t : ℕ) → t < n → p t ≡ false) → first_below n p ≡ None
   first_none n h = sym (first_is n None h)
@@ -41,10 +41,10 @@ module _ (p : ℕ → Bool) where
   first_some n k f = sym (first_is n (Some k) f)
 
   pub none_first : (n : ℕ) → first_below n p ≡ None → (t : ℕ) → t < n → p t ≡ false
-  none_first n e = MatchOption-at_none _ (First n p) e (answers n)
+  none_first n e = MatchOption-at_none _ (First n p) e (found n)
 
   pub some_first : (n k : ℕ) → first_below n p ≡ Some k → First n p k
-  some_first n k e = MatchOption-at_some _ (First n p) k e (answers n)
+  some_first n k e = MatchOption-at_some _ (First n p) k e (found n)
 
 pub first_below_same : (p q : ℕ → Bool) (n : ℕ) → ((t : ℕ) → t < n → p t ≡ q t) → first_below n p ≡ first_below n q
 first_below_same p q zero h = refl

@@ -11,8 +11,8 @@ use std::array;
 // A set of tanks: the tanks whose place holds true.
 type TankSet = [bool; MOST_TANKS];
 
-// The valves of a set that went so far. The tanks that they give to are kept beside them,
-// so that a valve is judged by its own weights alone.
+// The valves of a set that went so far, none outside the greatest starting part.
+// The tanks that they give to are kept beside them, so that a valve is judged by its own weights alone.
 #[derive(Drop)]
 struct Going<'a, P: Plant> {
     plant: &'a P,
@@ -71,6 +71,7 @@ impl<'a, P: Plant> Going<'a, P> {
         ensures asked { (self.new.plant ≡ self.old.plant) × (self.new.filling ≡ self.old.filling) × (self.new.set ≡ self.old.set) }
     {
         let mut grew = false;
+        // A `for`, since each valve that goes changes the answer for those after it.
         for valve in 0..self.plant.counts().valves {
             if !self.went[valve] && self.can_go(valve) {
                 self.let_go(valve);

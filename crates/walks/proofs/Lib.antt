@@ -7,3 +7,4 @@ pub mod Setting
 pub mod Sufficient
 pub mod Closure
 pub mod Necessary
+pub mod Ranges

@@ -11,7 +11,7 @@ use Rattle.plant.specs.Firings.{named, total, totals, upto, WalkBy}
 use Rattle.walks.proofs.Named.{upto_either}
 use Rattle.walks.proofs.Sufficient.{sufficient}
 use Rattle.walks.proofs.Necessary as Necessary
-use Rattle.words.specs.Faults.{onward, raised}
+use Rattle.words.specs.Faults.{onward, raised, refusing}
 use Rattle.words.specs.Inverse.{Bytes}
 use Rattle.paper.specs.Totals.{TotalFits, TotalsFormed, totals_paper}
 use Rattle.paper.specs.TotalsForm.{totals_read}
@@ -22,7 +22,7 @@ use Rattle.weighing.specs.declared.faults.Verdict.TheVariants.{Joined}
 use Rattle.weighing.specs.declared.faults.Side.TheVariants.{Source, Target}
 use Rattle.weighing.specs.declared.faults.QuestionFault.TheVariants.{Amount}
 use Rattle.weighing.specs.declared.faults.WeighingFault.TheVariants.{Question, Paper, Totals}
-use Rattle.weighing.specs.Question.{refusing, over, asked, Filling}
+use Rattle.weighing.specs.Question.{over, asked, Filling}
 use Rattle.weighing.specs.Judgement.{judged}
 use Rattle.weighing.specs.Weighing.{weighs}
 use Rattle.weighing.specs.Accepted.{Accepted, WithinLimits, totals_of_walk, TotalsAreWeighedExactly, AcceptedTotalsHaveAWalk, TotalsOfWalksAreAccepted}

@@ -16,7 +16,7 @@ use Rattle.weighing.specs.declared.faults.Verdict.{Verdict}
 use Rattle.weighing.specs.declared.faults.Verdict.TheVariants.{Joined}
 use Rattle.weighing.specs.declared.faults.TotalsFault.{TotalsFault}
 use Rattle.weighing.specs.declared.faults.TotalsFault.TheVariants.{Closed, Unbalanced, NoStart, NoEnd}
-use Rattle.weighing.specs.Question.{refusing}
+use Rattle.words.specs.Faults.{refusing}
 use Rattle.weighing.specs.Judgement.{closed_at, balance_side, unbalanced, judged}
 use Rattle.weighing.specs.Refused.{AllOpen, FirstClosed, Balances, FirstUnbalanced, Refused}
 use Rattle.weighing.proofs.Judging.{judged_by}

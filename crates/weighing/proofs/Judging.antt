@@ -10,7 +10,7 @@ use Rattle.weighing.specs.declared.faults.Verdict.{Verdict}
 use Rattle.weighing.specs.declared.faults.Verdict.TheVariants.{Joined}
 use Rattle.weighing.specs.declared.faults.TotalsFault.{TotalsFault}
 use Rattle.weighing.specs.declared.faults.TotalsFault.TheVariants.{Closed, Unbalanced, NoStart, NoEnd}
-use Rattle.weighing.specs.Question.{refusing}
+use Rattle.words.specs.Faults.{refusing}
 use Rattle.weighing.specs.Judgement.{closed_at, unbalanced, judged}
 
 -- the judgement by what the four searches find

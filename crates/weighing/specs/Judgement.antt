@@ -9,7 +9,7 @@ use Rattle.weighing.specs.declared.faults.Verdict.{Verdict}
 use Rattle.weighing.specs.declared.faults.Verdict.TheVariants.{Joined}
 use Rattle.weighing.specs.declared.faults.TotalsFault.{TotalsFault}
 use Rattle.weighing.specs.declared.faults.TotalsFault.TheVariants.{Closed, Unbalanced, NoStart, NoEnd}
-use Rattle.weighing.specs.Question.{refusing}
+use Rattle.words.specs.Faults.{refusing}
 
 -- the word, counted from `at`, of the first total whose valve is closed
 abbrev pub closed_at : Net → ℕ → List Firing → Option ℕ

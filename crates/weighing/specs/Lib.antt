@@ -1,4 +1,5 @@
 pub mod Faults
+pub mod Shown
 pub mod Question
 pub mod Judgement
 pub mod Weighing

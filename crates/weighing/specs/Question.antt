@@ -1,16 +1,12 @@
 -- The question that a weighing answers: two fillings of the plant, each amount within the limit.
-use Rattle.std.specs.Prelude.{◌≡◌, ℕ, ◌≤◌, cond, List, length, Some, None, Ok, Err, Option, Result, ◌==◌, nat_lt}
+use Rattle.std.specs.Prelude.{◌≡◌, ℕ, ◌≤◌, cond, List, length, Ok, Err, Option, Result, ◌==◌, nat_lt}
 use Rattle.plant.specs.Limits.{most_amount}
 use Rattle.plant.specs.Walk.{held}
+use Rattle.words.specs.Faults.{refusing}
 use Rattle.starting.specs.Starting.{first_below}
 use Rattle.weighing.specs.declared.faults.Side.TheVariants.{Source, Target}
 use Rattle.weighing.specs.declared.faults.QuestionFault.{QuestionFault}
 use Rattle.weighing.specs.declared.faults.QuestionFault.TheVariants.{Length, Amount}
-
--- the lowest place that a test finds is refused, or what comes after is the answer
-abbrev pub refusing : {A E : Type 0} → Option ℕ → (ℕ → E) → Result A E → Result A E
-refusing None fault after = after
-refusing (Some place) fault after = Err (fault place)
 
 -- the first tank of a filling with more than the limit
 abbrev pub over : List ℕ → Option ℕ

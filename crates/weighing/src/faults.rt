@@ -1,25 +1,37 @@
-// Why a weighing refuses. The upper fault carries the lower one whole.
-ghost use Rattle.std.specs.Prelude.{◌≡◌};
+// Why a weighing refuses, and what it answers otherwise. The upper fault carries the lower one whole.
+ghost use Rattle.std.specs.Prelude.{◌≡◌, Some};
 ghost use Rattle.weighing.specs.Faults.{of_question, of_totals, of_weighing};
+ghost use Rattle.weighing.specs.Shown.{verdict_text};
 ghost use Rattle.weighing.specs.declared.faults.WeighingFault.TheVariants.{Question as OfQuestion, Paper as OfPaper, Totals as OfTotals};
 
+use std::fmt;
 use words::{PaperFault, Part, Refusal};
 
 // What a paper that is accepted shows.
-#[derive(Clone, Copy, Debug, PartialEq)]
+#[derive(Clone, Copy, Debug, PartialEq, Eq)]
 pub enum Verdict {
     Joined,
 }
 
+impl fmt::Display for Verdict {
+    ghost output = { λ verdict. Some (verdict_text verdict) };
+
+    fn fmt<W: fmt::Write>(&self, f: &mut fmt::Formatter<W>) -> fmt::Result {
+        match self {
+            Verdict::Joined => f.write_str("JOINED"),
+        }
+    }
+}
+
 // One of the two fillings of a question.
-#[derive(Clone, Copy, Debug, PartialEq)]
+#[derive(Clone, Copy, Debug, PartialEq, Eq)]
 pub enum Side {
     Source,
     Target,
 }
 
 // A filling whose length is not the plant's tank count, or an amount above the limit, by its tank.
-#[derive(Clone, Copy, Debug, PartialEq)]
+#[derive(Clone, Copy, Debug, PartialEq, Eq)]
 pub enum QuestionFault {
     Length(Side),
     Amount(Side, u8),
@@ -27,7 +39,7 @@ pub enum QuestionFault {
 
 // Totals that account for no walk: a totalled valve is closed, by its word; a tank does not balance;
 // the totalled valves do not start from the source, or from the target on the turned plant, by the lowest that is left out.
-#[derive(Clone, Copy, Debug, PartialEq)]
+#[derive(Clone, Copy, Debug, PartialEq, Eq)]
 pub enum TotalsFault {
     Closed(usize),
     Unbalanced(usize),
@@ -35,13 +47,14 @@ pub enum TotalsFault {
     NoEnd(usize),
 }
 
-#[derive(Clone, Copy, Debug, PartialEq)]
+#[derive(Clone, Copy, Debug, PartialEq, Eq)]
 pub enum WeighingFault {
     Question(QuestionFault),
     Paper(PaperFault),
     Totals(TotalsFault),
 }
 
+// The three are written by hand: a derived From has no contract, so `?` would not say which fault it makes.
 impl From<QuestionFault> for WeighingFault {
     ghost from_gives = { λ x y. y ≡ OfQuestion x };
 
@@ -66,15 +79,15 @@ impl From<TotalsFault> for WeighingFault {
     }
 }
 
-impl QuestionFault {
-    pub fn refusal(self) -> Refusal
-        ensures { result ≡ of_question self }
-    {
-        let (number, place) = match self {
+impl From<QuestionFault> for Refusal {
+    ghost from_gives = { λ x y. y ≡ of_question x };
+
+    fn from(fault: QuestionFault) -> Refusal {
+        let (number, place) = match fault {
             QuestionFault::Length(Side::Source) => (10, 0),
             QuestionFault::Length(Side::Target) => (10, 1),
-            QuestionFault::Amount(Side::Source, tank) => (11, tank as usize),
-            QuestionFault::Amount(Side::Target, tank) => (11, tank as usize + 64),
+            QuestionFault::Amount(Side::Source, tank) => (11, usize::from(tank)),
+            QuestionFault::Amount(Side::Target, tank) => (11, usize::from(tank) + 64),
         };
         Refusal {
             number,
@@ -84,11 +97,11 @@ impl QuestionFault {
     }
 }
 
-impl TotalsFault {
-    pub fn refusal(self) -> Refusal
-        ensures { result ≡ of_totals self }
-    {
-        let (number, place) = match self {
+impl From<TotalsFault> for Refusal {
+    ghost from_gives = { λ x y. y ≡ of_totals x };
+
+    fn from(fault: TotalsFault) -> Refusal {
+        let (number, place) = match fault {
             TotalsFault::Closed(word) => (12, word),
             TotalsFault::Unbalanced(tank) => (13, tank),
             TotalsFault::NoStart(valve) => (14, valve),
@@ -102,14 +115,14 @@ impl TotalsFault {
     }
 }
 
-impl WeighingFault {
-    pub fn refusal(self) -> Refusal
-        ensures { result ≡ of_weighing self }
-    {
-        match self {
-            WeighingFault::Question(fault) => fault.refusal(),
-            WeighingFault::Paper(fault) => fault.refusal(),
-            WeighingFault::Totals(fault) => fault.refusal(),
+impl From<WeighingFault> for Refusal {
+    ghost from_gives = { λ x y. y ≡ of_weighing x };
+
+    fn from(fault: WeighingFault) -> Refusal {
+        match fault {
+            WeighingFault::Question(fault) => Refusal::from(fault),
+            WeighingFault::Paper(fault) => Refusal::from(fault),
+            WeighingFault::Totals(fault) => Refusal::from(fault),
         }
     }
 }

@@ -7,8 +7,7 @@ ghost use Rattle.weighing.specs.Weighing.{weighs};
 ghost use Rattle.weighing.specs.Accepted.{WithinLimits, totals_of_walk};
 
 use crate::faults::{Verdict, WeighingFault};
-use crate::question::check_question;
-use crate::totals::weigh_totals;
+use crate::question::Question;
 use paper::TotalsPaper;
 use plant::Plant;
 
@@ -21,11 +20,9 @@ fn weigh_in_turn<P: Plant>(
 ) -> Result<Verdict, WeighingFault>
     ensures { result ≡ weighs (P.Plant.meaning plant.now) source.now target.now evidence.now }
 {
-    let counts = plant.counts();
-    check_question(counts.tanks, source, target)?;
-    let paper = TotalsPaper::read(evidence, counts.valves)?;
-    let verdict = weigh_totals(plant, source, target, &paper)?;
-    Ok(verdict)
+    let question = Question::checked(plant, source, target)?;
+    let paper = TotalsPaper::read(evidence, plant.counts().valves)?;
+    Ok(question.weigh_totals(&paper)?)
 }
 
 // Weighs a paper of evidence that a walk leads from source to target. JOINED is answered only where there is one,

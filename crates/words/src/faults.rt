@@ -70,11 +70,12 @@ pub enum PaperFault {
     Count(usize),
 }
 
+// Written by hand: a derived From has no contract, so `?` would not say which fault it makes.
 impl From<WordFault> for PaperFault {
     ghost from_gives = { λ x y. y ≡ Words x };
 
-    fn from(value: WordFault) -> PaperFault {
-        PaperFault::Words(value)
+    fn from(fault: WordFault) -> PaperFault {
+        PaperFault::Words(fault)
     }
 }
 
@@ -124,7 +125,7 @@ pub fn count_words(bytes: &[u8], most: usize) -> Result<usize, WordFault>
     if bytes.len() % 4 != 0 {
         return Err(WordFault::Ragged(words));
     }
-    if bytes.len() == 0 {
+    if bytes.is_empty() {
         return Err(WordFault::Empty);
     }
     if words > most {

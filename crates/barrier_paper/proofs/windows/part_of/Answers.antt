@@ -1,22 +1,25 @@
-use Rattle.std.proofs.Common.{◌+◌, ◌*◌, sym, ◌∙◌, arith}
+use Rattle.std.proofs.Common.{sym, arith}
 use Rattle.std.proofs.lemmas.List.{length-take-le}
 use Rattle.words.specs.Words.{words}
-use Rattle.words.proofs.Laws.{words_take}
-use Rattle.barrier_paper.proofs.Seeking.{part_inside, take_part}
+use Rattle.words.specs.Kinds.{number_of}
+use Rattle.words.proofs.Laws.{words_rest}
+use Rattle.barrier_paper.proofs.Seeking.{Parted, parted}
 use Rattle.barrier_paper.proofs.windows.part_of.Goals as goal
+use Rattle.barrier_paper.proofs.windows.part_of.Goals.{After-count_before}
+
+here : (c : After-count_before) → Parted (number_of c.args.kind) c.count_before.result c.args.bytes.now
+here c =
+    let h = c.in-Some.ensures.lookup.0 in
+    parted _ _ _ (words c.in-Some.after.now) c.args.bytes.now (rw (← h.2) at (words_rest c.args.bytes.now h.0)) c.count_before.ensures
 
 pub overflow_add-result : goal.overflow_add-result
-overflow_add-result c = omega (arith, part_inside c.args.kind c.count_before.result c.in-Some.field-0-0 (words c.in-Some.after.now) c.args.bytes.now c.in-Some.ensures c.count_before.ensures)
+overflow_add-result c = omega (arith, (here c).inside)
 
 pub overflow_mul-result : goal.overflow_mul-result
-overflow_mul-result c = omega (arith, part_inside c.args.kind c.count_before.result c.in-Some.field-0-0 (words c.in-Some.after.now) c.args.bytes.now c.in-Some.ensures c.count_before.ensures)
+overflow_mul-result c = omega (arith, (here (goal.at.overflow_mul-result c).After-count_before).inside)
 
 pub slice_bounds-result-end : goal.slice_bounds-result-end
-slice_bounds-result-end c =
-    let inside = part_inside c.args.kind c.count_before.result c.in-Some.field-0-0 (words c.in-Some.after.now) c.args.bytes.now c.in-Some.ensures c.count_before.ensures in
-    sym (length-take-le (4 * (1 + c.count_before.result)) c.args.bytes.now inside)
+slice_bounds-result-end c = sym (length-take-le _ c.args.bytes.now (here c).inside)
 
 pub returns-in-Some : goal.returns-in-Some
-returns-in-Some c =
-    words_take (1 + c.count_before.result) c.args.bytes.now
-    ∙ take_part c.args.kind c.count_before.result c.in-Some.field-0-0 (words c.in-Some.after.now) (words c.args.bytes.now) c.in-Some.ensures c.count_before.ensures
+returns-in-Some c = (here c).is

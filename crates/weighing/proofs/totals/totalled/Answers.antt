@@ -1,20 +1,35 @@
-use Rattle.std.proofs.Common.{◌<◌, ◌||◌, eqb, map, length, sym, refl, ap, ◌∙◌, arith, length-set}
+use Rattle.std.proofs.Common.{◌||◌, eqb, length-set, sym, refl, ap, ◌∙◌, arith}
+use Rattle.std.specs.List.{list_any}
 use Rattle.plant.specs.Firings.{named}
-use Rattle.words.specs.Left.{left}
-use Rattle.paper.specs.Totals.{total_of}
+use Rattle.words.specs.Left.{left, to_come}
 use Rattle.starting.specs.Starting.{marked}
+use Rattle.weighing.proofs.Reading.{totals, valve_named}
 use Rattle.weighing.proofs.Sets.{mark_none, mark_more}
 use Rattle.weighing.proofs.totals.totalled.Goals as goal
 
-pub loop-w-init : goal.loop-w-init
-loop-w-init c = (refl, λ t. ap (λ b. b || named (map total_of (left c.totals-reader.result)) t) (mark_none t) ∙ ap (λ fs. named fs t) c.totals-reader.ensures.totals)
-
-pub loop-w-preserved : goal.loop-w-preserved
-loop-w-preserved c =
-    let inside : c.of_word.result.valve < length c.loop-w.set = omega (arith, c.of_word.ensures.there, c.loop-w.invariant.0) in (
-      length-set c.loop-w.set c.of_word.result.valve _ ∙ c.loop-w.invariant.0,
+pub loop-word-init : goal.loop-word-init
+loop-word-init c =
+    let r = c.totals-word-items.result in (
+      tt,
+      tt,
+      refl,
       λ t.
-          mark_more c.loop-w.set c.of_word.result.valve t (named (map total_of (left c.next.new.self)) t) inside
-          ∙ (ap (λ v. marked c.loop-w.set t || (eqb v t || named (map total_of (left c.next.new.self)) t)) c.of_word.ensures.valve
-          ∙ (ap (λ ws. marked c.loop-w.set t || named (map total_of ws) t) (sym c.in-Some.ensures.cases.0) ∙ c.loop-w.invariant.1 t)),
+          ap (λ b. b || list_any (totals t) (to_come c.into_iter-word-iterator.result)) (mark_none t)
+          ∙ (ap (λ s. list_any (totals t) (to_come s)) c.into_iter-word-iterator.ensures.into_iter_gives
+          ∙ (valve_named t r.at (left r) ∙ ap (λ fs. named fs t) c.totals-word-items.ensures.totals)),
+    )
+
+pub loop-word-preserved : goal.loop-word-preserved
+loop-word-preserved c =
+    let valve = c.from.result.valve in
+    let set = c.loop-word.set in
+    let long = c.loop-word.invariant.2 in (
+      tt,
+      tt,
+      length-set set valve _ ∙ long,
+      λ t.
+          let more = list_any (totals t) (to_come c.next.new.self) in
+          mark_more set valve t more (omega (arith, c.from.ensures.there, long))
+          ∙ (ap (λ v. marked set t || (eqb v t || more)) c.from.ensures.valve
+          ∙ (ap (λ ws. marked set t || list_any (totals t) ws) (sym c.in-Some.ensures.steps) ∙ c.loop-word.invariant.3 t)),
     )

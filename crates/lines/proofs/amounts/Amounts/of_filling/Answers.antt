@@ -2,7 +2,7 @@ use Rattle.std.proofs.Common.{min, arith, rules, lit≤}
 use Rattle.plant.specs.Limits.{most_amount}
 use Rattle.plant.specs.Walk.{held}
 use Rattle.lines.specs.Tables.{Tabulates}
-use Rattle.lines.proofs.Ranges.{tabulated, tabulated_small}
+use Rattle.lines.proofs.Tabling.{tabulated, tabulated_small}
 use Rattle.lines.proofs.amounts.Amounts.of_filling.Goals as goal
 
 pub invariant_of-result : goal.invariant_of-result

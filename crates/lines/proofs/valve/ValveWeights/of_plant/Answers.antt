@@ -1,5 +1,5 @@
 use Rattle.std.proofs.Common.{rules, lit≤}
-use Rattle.lines.proofs.Ranges.{tabulated, tabulated_small}
+use Rattle.lines.proofs.Tabling.{tabulated, tabulated_small}
 use Rattle.lines.proofs.valve.ValveWeights.of_plant.Goals as goal
 
 pub invariant_of-result : goal.invariant_of-result

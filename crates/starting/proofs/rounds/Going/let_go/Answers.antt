@@ -1,7 +1,7 @@
 use Rattle.std.proofs.Common.{◌||◌, ltb, false, arith, rules, tests}
 use Rattle.plant.specs.Walk.{held}
 use Rattle.starting.specs.Starting.{marked}
-use Rattle.starting.proofs.Ranges.{made_at}
+use Rattle.walks.proofs.Ranges.{made_at}
 use Rattle.starting.proofs.Sweeps.{set_joins, tells_joined, within_joined}
 use Rattle.starting.proofs.rounds.Going.let_go.Goals as goal
 
