@@ -5,10 +5,11 @@ use barrier_paper::step_words::{MatchWord, StepWord};
 use barrier_paper::weights::line_weights;
 use barrier_paper::windows::{count_kind, line, part_of};
 use lines::Way;
+use plant::Counts;
 use std::alloc::{AllocError, Global};
 use std::process::Abort;
 use std::test::Fail;
-use words::{PaperFault, Part, Refusal};
+use words::{Kind, PaperFault, Part, Refusal, Word};
 
 // The number and the place of the refusal that a barrier paper meets on a plant with so many tanks and valves, if it meets one.
 fn met(bytes: &[u8], tanks: usize, valves: usize) -> Option<(u32, usize)> {
@@ -490,7 +491,13 @@ static PARTS: [u32; 10] = [
 #[test]
 fn cases_of_a_barrier(rt: HostRuntime) -> Result<(), Fail> {
     let bytes = written(rt.alloc(), &PARTS)?;
-    let paper = BarrierPaper::read(&bytes, 2, 2)?;
+    let paper = BarrierPaper::read(
+        &bytes,
+        Counts {
+            tanks: 2,
+            valves: 2,
+        },
+    )?;
     assert!(rt; bytes.len() == 40);
     assert_eq!(rt; (paper.cases(), paper.steps_at()), (2, 6));
     assert_eq!(rt; paper.case(0), &bytes[0..20]);
@@ -505,11 +512,11 @@ fn cases_of_a_barrier(rt: HostRuntime) -> Result<(), Fail> {
 fn lines_of_a_case(rt: HostRuntime) -> Result<(), Fail> {
     let bytes = written(rt.alloc(), &PARTS)?;
     assert!(rt; bytes.len() == 40);
-    assert_eq!(rt; count_kind(&bytes[0..20], 7), 2);
+    assert_eq!(rt; count_kind(&bytes[0..20], Kind::Line), 2);
     assert_eq!(rt; line(&bytes[0..20], 0), &bytes[4..12]);
     assert_eq!(rt; line(&bytes[0..20], 1), &bytes[12..20]);
     assert_eq!(rt; line(&bytes[0..20], 2).len(), 0);
-    assert_eq!(rt; part_of(&bytes[24..40], 10), &bytes[24..28]);
+    assert_eq!(rt; part_of(&bytes[24..40], Kind::Step), &bytes[24..28]);
     Ok(())
 }
 
@@ -529,10 +536,18 @@ fn weights_of_a_line(rt: HostRuntime) -> Result<(), Fail> {
     let weights = line_weights(&bytes);
     for (tank, left, right) in [(0, 10_000, 0), (1, -1, 5), (2, 0, 0), (63, 0, -10_000)] {
         assert!(rt; tank < 64);
-        assert_eq!(rt; (weights.left[tank], weights.right[tank]), (left, right));
+        assert_eq!(rt;
+            (weights.left.each[tank], weights.right.each[tank]),
+            (left, right)
+        );
     }
     assert!(rt; weights.strict);
     Ok(())
+}
+
+// The first word of a paper.
+fn word_of(bits: u32) -> Word {
+    Word { place: 0, bits }
 }
 
 // What the words of a step and of a match say.
@@ -544,20 +559,20 @@ fn what_steps_say(rt: HostRuntime) {
         valve: 63,
         to: 14,
     };
-    assert_eq!(rt; StepWord::of_word(0xafff_c000), step);
+    assert_eq!(rt; StepWord::from(word_of(0xafff_c000)), step);
     let first = StepWord {
         way: Way::Forward,
         from: 0,
         valve: 1,
         to: 0,
     };
-    assert_eq!(rt; StepWord::of_word(0xa002_0000), first);
+    assert_eq!(rt; StepWord::from(word_of(0xa002_0000)), first);
     let found = MatchWord {
         line: 15,
         p: 4095,
         q: 1,
     };
-    assert_eq!(rt; MatchWord::of_word(0xbfff_f001), found);
+    assert_eq!(rt; MatchWord::from(word_of(0xbfff_f001)), found);
 }
 
 // Matches that are still due, and one case or line too many, are faults of the paper.

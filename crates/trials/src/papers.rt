@@ -259,7 +259,10 @@ fn broken_lengths(rt: HostRuntime) {
     ] {
         assert!(rt; length <= 9);
         assert_eq!(rt; refusal_of(check_plant(&plant[0..length])), refused);
-        assert_eq!(rt; refusal_of(TotalsPaper::read(&totals[0..length], 1)), refused);
+        assert_eq!(rt;
+            refusal_of(TotalsPaper::read(&totals[0..length], 1)),
+            refused
+        );
     }
 }
 
@@ -270,7 +273,12 @@ fn long_papers(rt: HostRuntime) -> Result<(), Fail> {
         let bytes = written_out(rt.alloc(), 0x1000_2040, 0x2000_0001, 0x1_0000, arcs)?;
         assert_eq!(rt; refusal_of(check_plant(&bytes)), refused);
     }
-    for (totals, refused) in [(64, None), (65, Some((4, 65))), (8191, Some((4, 65))), (8192, Some((3, 8193)))] {
+    for (totals, refused) in [
+        (64, None),
+        (65, Some((4, 65))),
+        (8191, Some((4, 65))),
+        (8192, Some((3, 8193))),
+    ] {
         let bytes = written_out(rt.alloc(), 0x4000_0001, 0x5000_0001, 0x40_0000, totals)?;
         assert_eq!(rt; refusal_of(TotalsPaper::read(&bytes, 64)), refused);
     }

@@ -110,8 +110,14 @@ fn last_of_64_tanks(rt: HostRuntime) {
     let low = [0; 64];
     let mut high = [0; 64];
     high[63] = 1_000_001;
-    assert_eq!(rt; refusal_of(weigh(&ring, &high, &low, &NO_TOTALS)), Some((11, 63)));
-    assert_eq!(rt; refusal_of(weigh(&ring, &low, &high, &NO_TOTALS)), Some((11, 127)));
+    assert_eq!(rt;
+        refusal_of(weigh(&ring, &high, &low, &NO_TOTALS)),
+        Some((11, 63))
+    );
+    assert_eq!(rt;
+        refusal_of(weigh(&ring, &low, &high, &NO_TOTALS)),
+        Some((11, 127))
+    );
     high[63] = 1_000_000;
     assert_eq!(rt; refusal_of(weigh(&ring, &high, &high, &NO_TOTALS)), None);
 }
@@ -133,7 +139,10 @@ fn closed_valves(rt: HostRuntime) -> Result<(), Fail> {
             below: RingMain::new(2),
             shut,
         };
-        assert_eq!(rt; refusal_of(weigh(&narrowed, &[1, 0], &[1, 0], &both)), refused);
+        assert_eq!(rt;
+            refusal_of(weigh(&narrowed, &[1, 0], &[1, 0], &both)),
+            refused
+        );
     }
     Ok(())
 }
@@ -237,7 +246,10 @@ fn ends(rt: HostRuntime) -> Result<(), Fail> {
     let leaky = PaperPlant::new(&bytes);
     let evidence = written(rt.alloc(), &[0x4000_0001, 0x5000_0001])?;
     assert_eq!(rt; refusal_of(weigh(&leaky, &[2], &[1], &evidence)), None);
-    assert_eq!(rt; refusal_of(weigh(&leaky, &[1], &[0], &evidence)), Some((15, 0)));
+    assert_eq!(rt;
+        refusal_of(weigh(&leaky, &[1], &[0], &evidence)),
+        Some((15, 0))
+    );
     Ok(())
 }
 
@@ -273,7 +285,10 @@ fn largest_numbers(rt: HostRuntime) -> Result<(), Fail> {
 fn empty_plant(rt: HostRuntime) {
     let empty = RingMain::new(1);
     assert_eq!(rt; refusal_of(weigh(&empty, &[], &[], &NO_TOTALS)), None);
-    assert_eq!(rt; refusal_of(weigh(&empty, &[0], &[], &NO_TOTALS)), Some((10, 0)));
+    assert_eq!(rt;
+        refusal_of(weigh(&empty, &[0], &[], &NO_TOTALS)),
+        Some((10, 0))
+    );
     assert_eq!(rt;
         refusal_of(weigh(&empty, &[], &[], &[0x40, 0, 0, 1, 0x50, 0, 0, 1])),
         Some((7, 1))
