@@ -1,24 +1,19 @@
 // What is read of barrier papers: the number and the place of the first fault, and the parts of a paper that has none.
-use crate::sheets::{Trial, put, written};
+use crate::sheets::{Trial, put, refusal_of, written};
 use barrier_paper::BarrierPaper;
 use barrier_paper::step_words::{MatchWord, StepWord};
 use barrier_paper::weights::line_weights;
 use barrier_paper::windows::{count_kind, line, part_of};
 use lines::Way;
+use plant::Counts;
 use std::alloc::{AllocError, Global};
 use std::process::Abort;
 use std::test::Fail;
-use words::{PaperFault, Part, Refusal};
+use words::{Kind, PaperFault, Part, Refusal, Word};
 
-// The number and the place of what a barrier paper meets on a plant with so many tanks and valves.
-fn met(bytes: &[u8], tanks: usize, valves: usize) -> (u32, usize) {
-    match BarrierPaper::read(bytes, tanks, valves) {
-        Ok(_) => (0, 0),
-        Err(fault) => {
-            let refusal = fault.refusal();
-            (refusal.number, refusal.place)
-        }
-    }
+// The number and the place of the refusal that a barrier paper meets on a plant with so many tanks and valves, if it meets one.
+fn met(bytes: &[u8], tanks: usize, valves: usize) -> Option<(u32, usize)> {
+    refusal_of(BarrierPaper::read(bytes, Counts { tanks, valves }))
 }
 
 // Tries each list of words after a head, on a plant with two tanks and two valves.
@@ -28,7 +23,7 @@ fn tried(rt: &impl Abort, heap: Global, head: &[u32], trials: &[Trial]) -> Resul
         for word in trial.words {
             put(&mut bytes, *word)?;
         }
-        assert_eq!(rt; met(&bytes, 2, 2), (trial.number, trial.place));
+        assert_eq!(rt; met(&bytes, 2, 2), trial.refused);
     }
     Ok(())
 }
@@ -64,61 +59,50 @@ static CASES: [Trial; 11] = [
     // a barrier of one case and nothing else, and one without steps
     Trial {
         words: &[0x6000_0000],
-        number: 0,
-        place: 0,
+        refused: None,
     },
     Trial {
         words: &[0x6000_0000, 0x7000_0001, 0x6000_0000, 0x7000_0000],
-        number: 0,
-        place: 0,
+        refused: None,
     },
     // a case comes first
     Trial {
         words: &[0x7000_0000],
-        number: 4,
-        place: 0,
+        refused: Some((4, 0)),
     },
     Trial {
         words: &[0xa000_0000],
-        number: 4,
-        place: 0,
+        refused: Some((4, 0)),
     },
     Trial {
         words: &[0x4000_0001],
-        number: 4,
-        place: 0,
+        refused: Some((4, 0)),
     },
     // a weight belongs to a line, and a match to a step
     Trial {
         words: &[0x6000_0000, 0x8000_0001],
-        number: 4,
-        place: 1,
+        refused: Some((4, 1)),
     },
     Trial {
         words: &[0x6000_0000, 0x9000_0001],
-        number: 4,
-        place: 1,
+        refused: Some((4, 1)),
     },
     Trial {
         words: &[0x6000_0000, 0x7000_0000, 0xb000_0000],
-        number: 4,
-        place: 2,
+        refused: Some((4, 2)),
     },
     // kinds that no barrier paper has
     Trial {
         words: &[0x6000_0000, 0x5000_0001],
-        number: 4,
-        place: 1,
+        refused: Some((4, 1)),
     },
     Trial {
         words: &[0x6000_0000, 0x7000_0000, 0xc000_0000],
-        number: 4,
-        place: 2,
+        refused: Some((4, 2)),
     },
     Trial {
         words: &[0x6000_0000, 0x7000_0000, 0x0000_0000],
-        number: 4,
-        place: 2,
+        refused: Some((4, 2)),
     },
 ];
 
@@ -127,118 +111,96 @@ static WEIGHTS: [Trial; 22] = [
     // sizes 0, 1, 10,000 and 10,001, left and right, with either sign
     Trial {
         words: &[0x8000_0000],
-        number: 7,
-        place: 2,
+        refused: Some((7, 2)),
     },
     Trial {
         words: &[0x8000_0001],
-        number: 0,
-        place: 0,
+        refused: None,
     },
     Trial {
         words: &[0x8000_2710],
-        number: 0,
-        place: 0,
+        refused: None,
     },
     Trial {
         words: &[0x8000_2711],
-        number: 7,
-        place: 2,
+        refused: Some((7, 2)),
     },
     Trial {
         words: &[0x9000_4000],
-        number: 7,
-        place: 2,
+        refused: Some((7, 2)),
     },
     Trial {
         words: &[0x9000_4001],
-        number: 0,
-        place: 0,
+        refused: None,
     },
     Trial {
         words: &[0x9000_6710],
-        number: 0,
-        place: 0,
+        refused: None,
     },
     Trial {
         words: &[0x9000_6711],
-        number: 7,
-        place: 2,
+        refused: Some((7, 2)),
     },
     // the last tank, and one past it
     Trial {
         words: &[0x8040_0001, 0x9040_0001],
-        number: 0,
-        place: 0,
+        refused: None,
     },
     Trial {
         words: &[0x8080_0001],
-        number: 7,
-        place: 2,
+        refused: Some((7, 2)),
     },
     Trial {
         words: &[0x9080_0001],
-        number: 7,
-        place: 2,
+        refused: Some((7, 2)),
     },
     // tanks that rise by one, that are equal, and that fall
     Trial {
         words: &[0x8000_0001, 0x8040_0001, 0x9000_0001, 0x9040_0001],
-        number: 0,
-        place: 0,
+        refused: None,
     },
     Trial {
         words: &[0x8000_0001, 0x8000_0001],
-        number: 8,
-        place: 3,
+        refused: Some((8, 3)),
     },
     Trial {
         words: &[0x8040_0001, 0x8000_0001],
-        number: 8,
-        place: 3,
+        refused: Some((8, 3)),
     },
     Trial {
         words: &[0x9000_0001, 0x9000_4001],
-        number: 8,
-        place: 3,
+        refused: Some((8, 3)),
     },
     Trial {
         words: &[0x9040_0001, 0x9000_0001],
-        number: 8,
-        place: 3,
+        refused: Some((8, 3)),
     },
     // right weights begin anew, and so does the next line
     Trial {
         words: &[0x8040_0001, 0x9000_0001],
-        number: 0,
-        place: 0,
+        refused: None,
     },
     Trial {
         words: &[0x9040_0001, 0x7000_0000, 0x8000_0001],
-        number: 0,
-        place: 0,
+        refused: None,
     },
     // a left weight after a right one
     Trial {
         words: &[0x8000_0001, 0x9000_0001, 0x8040_0001],
-        number: 4,
-        place: 4,
+        refused: Some((4, 4)),
     },
     // the first fault of a word
     Trial {
         words: &[0x8040_0001, 0x8000_0000],
-        number: 7,
-        place: 3,
+        refused: Some((7, 3)),
     },
     Trial {
         words: &[0x8040_0001, 0x8000_8000],
-        number: 6,
-        place: 3,
+        refused: Some((6, 3)),
     },
     Trial {
         words: &[0x9040_0001, 0x8000_8000],
-        number: 4,
-        place: 3,
+        refused: Some((4, 3)),
     },
 ];
 
@@ -247,106 +209,87 @@ static STEPS: [Trial; 19] = [
     // within a case, and from one to the other: into the second no match is due
     Trial {
         words: &[0xa000_0000, 0xb000_0000, 0xa002_2000, 0xa082_2000],
-        number: 0,
-        place: 0,
+        refused: None,
     },
     // a case that is not there
     Trial {
         words: &[0xa100_2000],
-        number: 7,
-        place: 3,
+        refused: Some((7, 3)),
     },
     Trial {
         words: &[0xa000_4000],
-        number: 7,
-        place: 3,
+        refused: Some((7, 3)),
     },
     // one past the last valve
     Trial {
         words: &[0xa004_2000],
-        number: 7,
-        place: 3,
+        refused: Some((7, 3)),
     },
     // steps that rise by direction; that are equal; that fall by valve, by case and by direction
     Trial {
         words: &[0xa082_2000, 0xa800_2000],
-        number: 0,
-        place: 0,
+        refused: None,
     },
     Trial {
         words: &[0xa000_2000, 0xa000_2000],
-        number: 8,
-        place: 4,
+        refused: Some((8, 4)),
     },
     Trial {
         words: &[0xa002_2000, 0xa000_2000],
-        number: 8,
-        place: 4,
+        refused: Some((8, 4)),
     },
     Trial {
         words: &[0xa080_2000, 0xa002_2000],
-        number: 8,
-        place: 4,
+        refused: Some((8, 4)),
     },
     Trial {
         words: &[0xa800_2000, 0xa082_2000],
-        number: 8,
-        place: 4,
+        refused: Some((8, 4)),
     },
     // also over the matches between them
     Trial {
         words: &[0xa000_0000, 0xb000_0000, 0xa000_2000],
-        number: 8,
-        place: 5,
+        refused: Some((8, 5)),
     },
     // cases, lines and weights come before the steps
     Trial {
         words: &[0xa000_2000, 0x6000_0000],
-        number: 4,
-        place: 4,
+        refused: Some((4, 4)),
     },
     Trial {
         words: &[0xa000_2000, 0x7000_0000],
-        number: 4,
-        place: 4,
+        refused: Some((4, 4)),
     },
     Trial {
         words: &[0xa000_2000, 0x8000_0001],
-        number: 4,
-        place: 4,
+        refused: Some((4, 4)),
     },
     Trial {
         words: &[0xa000_2000, 0x9000_0001],
-        number: 4,
-        place: 4,
+        refused: Some((4, 4)),
     },
     // the first fault of a word
     Trial {
         words: &[0xa002_2000, 0xa000_4000],
-        number: 7,
-        place: 4,
+        refused: Some((7, 4)),
     },
     Trial {
         words: &[0xa002_2000, 0xa000_4001],
-        number: 6,
-        place: 4,
+        refused: Some((6, 4)),
     },
     // and the first word that has one
     Trial {
         words: &[0xa004_2000, 0xc000_0000],
-        number: 7,
-        place: 3,
+        refused: Some((7, 3)),
     },
     // a step comes right after a case, a line or a weight
     Trial {
         words: &[0x7000_0000, 0xa000_0000, 0xb000_0000],
-        number: 0,
-        place: 0,
+        refused: None,
     },
     Trial {
         words: &[0x7000_0000, 0x9000_0001, 0xa000_0000, 0xb000_0000],
-        number: 0,
-        place: 0,
+        refused: None,
     },
 ];
 
@@ -355,68 +298,56 @@ static MATCHES: [Trial; 12] = [
     // one match for the line of the first case, with the smallest and the largest factors
     Trial {
         words: &[0xa000_0000, 0xb000_0000],
-        number: 0,
-        place: 0,
+        refused: None,
     },
     Trial {
         words: &[0xa000_0000, 0xb0ff_ffff],
-        number: 0,
-        place: 0,
+        refused: None,
     },
     // still due at the end
     Trial {
         words: &[0xa000_0000],
-        number: 5,
-        place: 4,
+        refused: Some((5, 4)),
     },
     Trial {
         words: &[0x7000_0000, 0x7000_0000, 0xa000_2000, 0xb000_0000],
-        number: 5,
-        place: 7,
+        refused: Some((5, 7)),
     },
     // another kind while one is due
     Trial {
         words: &[0xa000_0000, 0xa002_2000],
-        number: 4,
-        place: 4,
+        refused: Some((4, 4)),
     },
     Trial {
         words: &[0xa000_0000, 0x6000_0000],
-        number: 4,
-        place: 4,
+        refused: Some((4, 4)),
     },
     Trial {
         words: &[0xa000_0000, 0xf000_0000],
-        number: 4,
-        place: 4,
+        refused: Some((4, 4)),
     },
     // one too many, also where the case has no lines
     Trial {
         words: &[0xa000_0000, 0xb000_0000, 0xb000_0000],
-        number: 4,
-        place: 5,
+        refused: Some((4, 5)),
     },
     Trial {
         words: &[0xa000_2000, 0xb000_0000],
-        number: 4,
-        place: 4,
+        refused: Some((4, 4)),
     },
     // no case follows a match
     Trial {
         words: &[0xa000_0000, 0xb000_0000, 0x6000_0000],
-        number: 4,
-        place: 5,
+        refused: Some((4, 5)),
     },
     // a line that the case left does not have
     Trial {
         words: &[0xa000_0000, 0xb100_0000],
-        number: 7,
-        place: 4,
+        refused: Some((7, 4)),
     },
     Trial {
         words: &[0xa080_0000, 0xb000_0000],
-        number: 7,
-        place: 4,
+        refused: Some((7, 4)),
     },
 ];
 
@@ -475,7 +406,7 @@ fn unnamed_bits_of_barriers(rt: HostRuntime) -> Result<(), Fail> {
             assert!(rt; place < 5 && bit < 32);
             words[place] |= 1 << bit;
             let bytes = written(rt.alloc(), &words)?;
-            assert_eq!(rt; met(&bytes, 1, 1), (6, place));
+            assert_eq!(rt; met(&bytes, 1, 1), Some((6, place)));
         }
     }
     Ok(())
@@ -484,31 +415,31 @@ fn unnamed_bits_of_barriers(rt: HostRuntime) -> Result<(), Fail> {
 // At most 16 cases, and at most 16 lines to each, the last of which can be named. The first of the lines too many is in the first case.
 #[test]
 fn many_cases_and_lines(rt: HostRuntime) -> Result<(), Fail> {
-    for (cases, lines, steps, number, place) in [
-        (16, 0, 0, 0, 0),
-        (17, 0, 0, 9, 16),
-        (1, 16, 0, 0, 0),
-        (1, 17, 0, 9, 17),
-        (16, 16, 1, 0, 0),
-        (17, 16, 1, 9, 272),
-        (16, 17, 1, 9, 17),
+    for (cases, lines, steps, refused) in [
+        (16, 0, 0, None),
+        (17, 0, 0, Some((9, 16))),
+        (1, 16, 0, None),
+        (1, 17, 0, Some((9, 17))),
+        (16, 16, 1, None),
+        (17, 16, 1, Some((9, 272))),
+        (16, 17, 1, Some((9, 17))),
     ] {
         let bytes = stepped(rt.alloc(), cases, lines, steps)?;
-        assert_eq!(rt; met(&bytes, 1, 1), (number, place));
+        assert_eq!(rt; met(&bytes, 1, 1), refused);
     }
     // an unnamed bit of the 17th case comes before that there are too many
     let mut bytes = stepped(rt.alloc(), 16, 0, 0)?;
     put(&mut bytes, 0x6000_0001)?;
-    assert_eq!(rt; met(&bytes, 1, 1), (6, 16));
+    assert_eq!(rt; met(&bytes, 1, 1), Some((6, 16)));
     Ok(())
 }
 
 // Every step that there can be, by direction, case and valve: two times 16 times 64. After the last none rises.
 #[test]
 fn all_steps(rt: HostRuntime) -> Result<(), Fail> {
-    for (steps, number, place) in [(2048, 0, 0), (2049, 8, 2064)] {
+    for (steps, refused) in [(2048, None), (2049, Some((8, 2064)))] {
         let bytes = stepped(rt.alloc(), 16, 0, steps)?;
-        assert_eq!(rt; met(&bytes, 1, 64), (number, place));
+        assert_eq!(rt; met(&bytes, 1, 64), refused);
     }
     Ok(())
 }
@@ -517,11 +448,11 @@ fn all_steps(rt: HostRuntime) -> Result<(), Fail> {
 #[test]
 fn long_barriers(rt: HostRuntime) -> Result<(), Fail> {
     let mut bytes = stepped(rt.alloc(), 16, 3, 2032)?;
-    assert_eq!(rt; met(&bytes, 1, 64), (0, 0));
+    assert_eq!(rt; met(&bytes, 1, 64), None);
     put(&mut bytes, 0xafe0_0000)?;
-    assert_eq!(rt; met(&bytes, 1, 64), (3, 8193));
+    assert_eq!(rt; met(&bytes, 1, 64), Some((3, 8193)));
     put_with(&mut bytes, 0xb000_0000, 2, 0xb000_0000)?;
-    assert_eq!(rt; met(&bytes, 1, 64), (3, 8196));
+    assert_eq!(rt; met(&bytes, 1, 64), Some((3, 8196)));
     Ok(())
 }
 
@@ -529,16 +460,16 @@ fn long_barriers(rt: HostRuntime) -> Result<(), Fail> {
 #[test]
 fn broken_barriers(rt: HostRuntime) {
     let paper = [0x60, 0, 0, 0, 0x70, 0, 0, 1, 0];
-    for (length, number, place) in [
-        (0, 2, 0),
-        (3, 1, 0),
-        (4, 0, 0),
-        (5, 1, 1),
-        (8, 0, 0),
-        (9, 1, 2),
+    for (length, refused) in [
+        (0, Some((2, 0))),
+        (3, Some((1, 0))),
+        (4, None),
+        (5, Some((1, 1))),
+        (8, None),
+        (9, Some((1, 2))),
     ] {
         assert!(rt; length <= 9);
-        assert_eq!(rt; met(&paper[0..length], 1, 1), (number, place));
+        assert_eq!(rt; met(&paper[0..length], 1, 1), refused);
     }
 }
 
@@ -560,7 +491,13 @@ static PARTS: [u32; 10] = [
 #[test]
 fn cases_of_a_barrier(rt: HostRuntime) -> Result<(), Fail> {
     let bytes = written(rt.alloc(), &PARTS)?;
-    let paper = BarrierPaper::read(&bytes, 2, 2)?;
+    let paper = BarrierPaper::read(
+        &bytes,
+        Counts {
+            tanks: 2,
+            valves: 2,
+        },
+    )?;
     assert!(rt; bytes.len() == 40);
     assert_eq!(rt; (paper.cases(), paper.steps_at()), (2, 6));
     assert_eq!(rt; paper.case(0), &bytes[0..20]);
@@ -575,11 +512,11 @@ fn cases_of_a_barrier(rt: HostRuntime) -> Result<(), Fail> {
 fn lines_of_a_case(rt: HostRuntime) -> Result<(), Fail> {
     let bytes = written(rt.alloc(), &PARTS)?;
     assert!(rt; bytes.len() == 40);
-    assert_eq!(rt; count_kind(&bytes[0..20], 7), 2);
+    assert_eq!(rt; count_kind(&bytes[0..20], Kind::Line), 2);
     assert_eq!(rt; line(&bytes[0..20], 0), &bytes[4..12]);
     assert_eq!(rt; line(&bytes[0..20], 1), &bytes[12..20]);
     assert_eq!(rt; line(&bytes[0..20], 2).len(), 0);
-    assert_eq!(rt; part_of(&bytes[24..40], 10), &bytes[24..28]);
+    assert_eq!(rt; part_of(&bytes[24..40], Kind::Step), &bytes[24..28]);
     Ok(())
 }
 
@@ -599,10 +536,18 @@ fn weights_of_a_line(rt: HostRuntime) -> Result<(), Fail> {
     let weights = line_weights(&bytes);
     for (tank, left, right) in [(0, 10_000, 0), (1, -1, 5), (2, 0, 0), (63, 0, -10_000)] {
         assert!(rt; tank < 64);
-        assert_eq!(rt; (weights.left[tank], weights.right[tank]), (left, right));
+        assert_eq!(rt;
+            (weights.left.each[tank], weights.right.each[tank]),
+            (left, right)
+        );
     }
     assert!(rt; weights.strict);
     Ok(())
+}
+
+// The first word of a paper.
+fn word_of(bits: u32) -> Word {
+    Word { place: 0, bits }
 }
 
 // What the words of a step and of a match say.
@@ -614,20 +559,20 @@ fn what_steps_say(rt: HostRuntime) {
         valve: 63,
         to: 14,
     };
-    assert_eq!(rt; StepWord::of_word(0xafff_c000), step);
+    assert_eq!(rt; StepWord::from(word_of(0xafff_c000)), step);
     let first = StepWord {
         way: Way::Forward,
         from: 0,
         valve: 1,
         to: 0,
     };
-    assert_eq!(rt; StepWord::of_word(0xa002_0000), first);
+    assert_eq!(rt; StepWord::from(word_of(0xa002_0000)), first);
     let found = MatchWord {
         line: 15,
         p: 4095,
         q: 1,
     };
-    assert_eq!(rt; MatchWord::of_word(0xbfff_f001), found);
+    assert_eq!(rt; MatchWord::from(word_of(0xbfff_f001)), found);
 }
 
 // Matches that are still due, and one case or line too many, are faults of the paper.
@@ -639,6 +584,6 @@ fn refusals_of_barriers(rt: HostRuntime) {
             place,
             part: Part::Paper,
         };
-        assert_eq!(rt; fault.refusal(), refusal);
+        assert_eq!(rt; Refusal::from(fault), refusal);
     }
 }

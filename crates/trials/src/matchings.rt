@@ -1,7 +1,7 @@
 // What lines and their matches come to: amounts, sides at equality, flow numbers and marks.
 use crate::sheets::written;
 use barrier_paper::weights::line_weights;
-use lines::{Amounts, Factors, LineWeights, ValveWeights, Way, flow_number, holds, is_good};
+use lines::{Amounts, Factors, LineWeights, Match, Pair, ValveWeights, Way};
 use paper::PaperPlant;
 use std::alloc::{AllocError, Global};
 use std::test::Fail;
@@ -10,12 +10,6 @@ use std::test::Fail;
 fn line_of(heap: Global, words: &[u32]) -> Result<LineWeights, AllocError> {
     let bytes = written(heap, words)?;
     Ok(line_weights(&bytes))
-}
-
-// The weights of valve 0 on the plant of such words.
-fn valve_of(heap: Global, words: &[u32]) -> Result<ValveWeights, AllocError> {
-    let bytes = written(heap, words)?;
-    Ok(ValveWeights::of_plant(&PaperPlant::new(&bytes), 0))
 }
 
 // Above 1,000,000 an amount counts as that. A tank that is not listed is empty, and a 65th amount has no tank.
@@ -32,7 +26,7 @@ fn amounts_of_fillings(rt: HostRuntime) {
         (63, 0),
     ] {
         assert!(rt; tank < 64);
-        let (of_few, of_many) = (few.amounts[tank], many.amounts[tank]);
+        let (of_few, of_many) = (few.each[tank], many.each[tank]);
         assert_eq!(rt; (of_few, of_many), (amount, 7));
     }
 }
@@ -61,15 +55,12 @@ fn lines_at_equality(rt: HostRuntime) -> Result<(), Fail> {
     ] {
         let words = [head, 0x8000_0001, 0x8040_4002, 0x9000_0001, 0x9040_4001];
         let line = line_of(rt.alloc(), &words)?;
-        assert_eq!(rt;
-            holds(
-                &line,
-                &Amounts::of_filling(&first),
-                &Amounts::of_filling(&second),
-                tanks,
-            ),
-            held
-        );
+        let pair = Pair {
+            source: &Amounts::of_filling(&first),
+            target: &Amounts::of_filling(&second),
+            tanks,
+        };
+        assert_eq!(rt; line.holds(&pair), held);
     }
     Ok(())
 }
@@ -333,21 +324,19 @@ static MATCHES: [Matched; 23] = [
 #[test]
 fn flows_and_marks(rt: HostRuntime) -> Result<(), Fail> {
     for matched in MATCHES {
-        let valve = valve_of(rt.alloc(), matched.plant)?;
-        let from = line_of(rt.alloc(), matched.from)?;
-        let to = line_of(rt.alloc(), matched.to)?;
-        let factors = Factors {
-            p: matched.p,
-            q: matched.q,
+        let bytes = written(rt.alloc(), matched.plant)?;
+        let plant = PaperPlant::new(&bytes);
+        let valve = ValveWeights::of_plant(&plant, 0);
+        let between = Match {
+            from: &line_of(rt.alloc(), matched.from)?,
+            to: &line_of(rt.alloc(), matched.to)?,
+            factors: Factors {
+                p: matched.p,
+                q: matched.q,
+            },
         };
-        assert_eq!(rt;
-            flow_number(&valve, matched.way, &from, &to, factors),
-            matched.flow
-        );
-        assert_eq!(rt;
-            is_good(&valve, matched.way, &from, &to, factors),
-            matched.good
-        );
+        assert_eq!(rt; between.flow_number(&valve, matched.way), matched.flow);
+        assert_eq!(rt; between.is_good(&valve, matched.way), matched.good);
     }
     Ok(())
 }

@@ -1,158 +1,112 @@
 // What is read of papers: the number and the place of the first fault.
-use crate::sheets::{Trial, written, written_out};
+use crate::sheets::{Trial, refusal_of, written, written_out};
 use paper::{Total, TotalsPaper, check_plant};
 use plant::Counts;
 use std::test::Fail;
 use words::{PaperFault, Part, Refusal, WordFault};
 
-// The number and the place of what a plant paper meets.
-fn plant_met(bytes: &[u8]) -> (u32, usize) {
-    match check_plant(bytes) {
-        Ok(_) => (0, 0),
-        Err(fault) => {
-            let refusal = fault.refusal();
-            (refusal.number, refusal.place)
-        }
-    }
-}
-
-// The same of a totals paper, on a plant with so many valves.
-fn totals_met(bytes: &[u8], valves: usize) -> (u32, usize) {
-    match TotalsPaper::read(bytes, valves) {
-        Ok(_) => (0, 0),
-        Err(fault) => {
-            let refusal = fault.refusal();
-            (refusal.number, refusal.place)
-        }
-    }
-}
-
 static PLANTS: [Trial; 24] = [
     // 0, 1, 64 and 65 tanks and valves
     Trial {
         words: &[0x1000_0001],
-        number: 7,
-        place: 0,
+        refused: Some((7, 0)),
     },
     Trial {
         words: &[0x1000_0080],
-        number: 7,
-        place: 0,
+        refused: Some((7, 0)),
     },
     Trial {
         words: &[0x1000_0081],
-        number: 0,
-        place: 0,
+        refused: None,
     },
     Trial {
         words: &[0x1000_2040],
-        number: 0,
-        place: 0,
+        refused: None,
     },
     Trial {
         words: &[0x1000_20c0],
-        number: 7,
-        place: 0,
+        refused: Some((7, 0)),
     },
     Trial {
         words: &[0x1000_2041],
-        number: 7,
-        place: 0,
+        refused: Some((7, 0)),
     },
     // the head and the arcs in their places
     Trial {
         words: &[0x2000_0001],
-        number: 4,
-        place: 0,
+        refused: Some((4, 0)),
     },
     Trial {
         words: &[0x1000_0081, 0x1000_0081],
-        number: 4,
-        place: 1,
+        refused: Some((4, 1)),
     },
     Trial {
         words: &[0x1000_0081, 0x4000_0001],
-        number: 4,
-        place: 1,
+        refused: Some((4, 1)),
     },
     // weights 0, 1 and 1,023
     Trial {
         words: &[0x1000_0081, 0x2000_0000],
-        number: 7,
-        place: 1,
+        refused: Some((7, 1)),
     },
     Trial {
         words: &[0x1000_0081, 0x2000_0001],
-        number: 0,
-        place: 0,
+        refused: None,
     },
     Trial {
         words: &[0x1000_0081, 0x3000_0000],
-        number: 7,
-        place: 1,
+        refused: Some((7, 1)),
     },
     Trial {
         words: &[0x1000_0081, 0x3000_03ff],
-        number: 0,
-        place: 0,
+        refused: None,
     },
     // the last valve and tank, and one past them
     Trial {
         words: &[0x1000_0102, 0x2041_0001],
-        number: 0,
-        place: 0,
+        refused: None,
     },
     Trial {
         words: &[0x1000_0102, 0x2081_0001],
-        number: 7,
-        place: 1,
+        refused: Some((7, 1)),
     },
     Trial {
         words: &[0x1000_0102, 0x2042_0001],
-        number: 7,
-        place: 1,
+        refused: Some((7, 1)),
     },
     Trial {
         words: &[0x1000_2040, 0x2fff_0001, 0x3fff_0001],
-        number: 0,
-        place: 0,
+        refused: None,
     },
     // arcs that rise by one, that are equal, and that fall by tank, by valve and by kind
     Trial {
         words: &[0x1000_0102, 0x2000_0001, 0x2001_0001],
-        number: 0,
-        place: 0,
+        refused: None,
     },
     Trial {
         words: &[0x1000_0102, 0x2001_0001, 0x2001_0002],
-        number: 8,
-        place: 2,
+        refused: Some((8, 2)),
     },
     Trial {
         words: &[0x1000_0102, 0x2001_0001, 0x2000_0002],
-        number: 8,
-        place: 2,
+        refused: Some((8, 2)),
     },
     Trial {
         words: &[0x1000_0102, 0x3040_0001, 0x3001_0001],
-        number: 8,
-        place: 2,
+        refused: Some((8, 2)),
     },
     Trial {
         words: &[0x1000_0102, 0x3000_0001, 0x2041_0001],
-        number: 8,
-        place: 2,
+        refused: Some((8, 2)),
     },
     // the first fault of a word, and the first word that has one
     Trial {
         words: &[0x1000_0102, 0x3000_0001, 0x2041_0400],
-        number: 6,
-        place: 2,
+        refused: Some((6, 2)),
     },
     Trial {
         words: &[0x1000_0102, 0x2041_0000, 0x4000_0000],
-        number: 7,
-        place: 1,
+        refused: Some((7, 1)),
     },
 ];
 
@@ -161,93 +115,76 @@ static TOTALS: [Trial; 17] = [
     // divisor 0, 1, 1,000,000 and 1,000,001
     Trial {
         words: &[0x4000_0000],
-        number: 7,
-        place: 0,
+        refused: Some((7, 0)),
     },
     Trial {
         words: &[0x4000_0001],
-        number: 0,
-        place: 0,
+        refused: None,
     },
     Trial {
         words: &[0x400f_4240],
-        number: 0,
-        place: 0,
+        refused: None,
     },
     Trial {
         words: &[0x400f_4241],
-        number: 7,
-        place: 0,
+        refused: Some((7, 0)),
     },
     // total 0, 1, 1,000,000 and 1,000,001
     Trial {
         words: &[0x4000_0001, 0x5000_0000],
-        number: 7,
-        place: 1,
+        refused: Some((7, 1)),
     },
     Trial {
         words: &[0x4000_0001, 0x5000_0001],
-        number: 0,
-        place: 0,
+        refused: None,
     },
     Trial {
         words: &[0x4000_0001, 0x500f_4240],
-        number: 0,
-        place: 0,
+        refused: None,
     },
     Trial {
         words: &[0x4000_0001, 0x500f_4241],
-        number: 7,
-        place: 1,
+        refused: Some((7, 1)),
     },
     // the last valve, and one past it
     Trial {
         words: &[0x4000_0001, 0x5040_0001],
-        number: 0,
-        place: 0,
+        refused: None,
     },
     Trial {
         words: &[0x4000_0001, 0x5080_0001],
-        number: 7,
-        place: 1,
+        refused: Some((7, 1)),
     },
     // totals that rise by one, that are equal, and that fall
     Trial {
         words: &[0x4000_0001, 0x5000_0001, 0x5040_0001],
-        number: 0,
-        place: 0,
+        refused: None,
     },
     Trial {
         words: &[0x4000_0001, 0x5040_0001, 0x5040_0001],
-        number: 8,
-        place: 2,
+        refused: Some((8, 2)),
     },
     Trial {
         words: &[0x4000_0001, 0x5040_0001, 0x5000_0001],
-        number: 8,
-        place: 2,
+        refused: Some((8, 2)),
     },
     // the head and the totals in their places; a case word
     Trial {
         words: &[0x5000_0001],
-        number: 4,
-        place: 0,
+        refused: Some((4, 0)),
     },
     Trial {
         words: &[0x6000_0000],
-        number: 4,
-        place: 0,
+        refused: Some((4, 0)),
     },
     Trial {
         words: &[0x4000_0001, 0x4000_0001],
-        number: 4,
-        place: 1,
+        refused: Some((4, 1)),
     },
     // the first fault of a word
     Trial {
         words: &[0x4000_0001, 0x5040_0001, 0x5010_0000],
-        number: 6,
-        place: 2,
+        refused: Some((6, 2)),
     },
 ];
 
@@ -255,7 +192,7 @@ static TOTALS: [Trial; 17] = [
 fn plant_papers(rt: HostRuntime) -> Result<(), Fail> {
     for trial in PLANTS {
         let bytes = written(rt.alloc(), trial.words)?;
-        assert_eq!(rt; plant_met(&bytes), (trial.number, trial.place));
+        assert_eq!(rt; refusal_of(check_plant(&bytes)), trial.refused);
     }
     Ok(())
 }
@@ -264,7 +201,7 @@ fn plant_papers(rt: HostRuntime) -> Result<(), Fail> {
 fn totals_papers(rt: HostRuntime) -> Result<(), Fail> {
     for trial in TOTALS {
         let bytes = written(rt.alloc(), trial.words)?;
-        assert_eq!(rt; totals_met(&bytes, 2), (trial.number, trial.place));
+        assert_eq!(rt; refusal_of(TotalsPaper::read(&bytes, 2)), trial.refused);
     }
     Ok(())
 }
@@ -283,7 +220,7 @@ fn unnamed_bits_of_plants(rt: HostRuntime) -> Result<(), Fail> {
             assert!(rt; place < 3 && bit < 32);
             words[place] |= 1 << bit;
             let bytes = written(rt.alloc(), &words)?;
-            assert_eq!(rt; plant_met(&bytes), (6, place));
+            assert_eq!(rt; refusal_of(check_plant(&bytes)), Some((6, place)));
         }
     }
     Ok(())
@@ -298,7 +235,7 @@ fn unnamed_bits_of_totals(rt: HostRuntime) -> Result<(), Fail> {
             assert!(rt; place < 2 && bit < 32);
             words[place] |= 1 << bit;
             let bytes = written(rt.alloc(), &words)?;
-            assert_eq!(rt; totals_met(&bytes, 1), (6, place));
+            assert_eq!(rt; refusal_of(TotalsPaper::read(&bytes, 1)), Some((6, place)));
         }
     }
     Ok(())
@@ -309,33 +246,41 @@ fn unnamed_bits_of_totals(rt: HostRuntime) -> Result<(), Fail> {
 fn broken_lengths(rt: HostRuntime) {
     let plant = [0x10, 0, 0, 0x81, 0x20, 0, 0, 1, 0];
     let totals = [0x40, 0, 0, 1, 0x50, 0, 0, 1, 0];
-    for (length, number, place) in [
-        (0, 2, 0),
-        (1, 1, 0),
-        (2, 1, 0),
-        (3, 1, 0),
-        (4, 0, 0),
-        (5, 1, 1),
-        (7, 1, 1),
-        (8, 0, 0),
-        (9, 1, 2),
+    for (length, refused) in [
+        (0, Some((2, 0))),
+        (1, Some((1, 0))),
+        (2, Some((1, 0))),
+        (3, Some((1, 0))),
+        (4, None),
+        (5, Some((1, 1))),
+        (7, Some((1, 1))),
+        (8, None),
+        (9, Some((1, 2))),
     ] {
         assert!(rt; length <= 9);
-        assert_eq!(rt; plant_met(&plant[0..length]), (number, place));
-        assert_eq!(rt; totals_met(&totals[0..length], 1), (number, place));
+        assert_eq!(rt; refusal_of(check_plant(&plant[0..length])), refused);
+        assert_eq!(rt;
+            refusal_of(TotalsPaper::read(&totals[0..length], 1)),
+            refused
+        );
     }
 }
 
 // A plant paper has at most 4,096 words, an evidence paper at most 8,192. The 65th total would be a word of kind 6.
 #[test]
 fn long_papers(rt: HostRuntime) -> Result<(), Fail> {
-    for (arcs, number, place) in [(4095, 0, 0), (4096, 3, 4097)] {
+    for (arcs, refused) in [(4095, None), (4096, Some((3, 4097)))] {
         let bytes = written_out(rt.alloc(), 0x1000_2040, 0x2000_0001, 0x1_0000, arcs)?;
-        assert_eq!(rt; plant_met(&bytes), (number, place));
+        assert_eq!(rt; refusal_of(check_plant(&bytes)), refused);
     }
-    for (totals, number, place) in [(64, 0, 0), (65, 4, 65), (8191, 4, 65), (8192, 3, 8193)] {
+    for (totals, refused) in [
+        (64, None),
+        (65, Some((4, 65))),
+        (8191, Some((4, 65))),
+        (8192, Some((3, 8193))),
+    ] {
         let bytes = written_out(rt.alloc(), 0x4000_0001, 0x5000_0001, 0x40_0000, totals)?;
-        assert_eq!(rt; totals_met(&bytes, 64), (number, place));
+        assert_eq!(rt; refusal_of(TotalsPaper::read(&bytes, 64)), refused);
     }
     Ok(())
 }
@@ -355,9 +300,9 @@ fn what_is_read(rt: HostRuntime) -> Result<(), Fail> {
     let mut reader = totals.totals();
     for (place, valve, amount) in [(1, 0, 1), (2, 63, 1_000_000)] {
         assert_eq!(rt; reader.place(), place);
-        let (at, w) = reader.next().ok_or("a total is missing")?;
-        assert_eq!(rt; at, place);
-        assert_eq!(rt; Total::of_word(w), Total { valve, amount });
+        let word = reader.next().ok_or("a total is missing")?;
+        assert_eq!(rt; word.place, place);
+        assert_eq!(rt; Total::from(word), Total { valve, amount });
     }
     assert_eq!(rt; reader.next(), None);
     Ok(())
@@ -380,6 +325,6 @@ fn refusals_of_papers(rt: HostRuntime) {
             place,
             part,
         };
-        assert_eq!(rt; fault.refusal(), refusal);
+        assert_eq!(rt; Refusal::from(fault), refusal);
     }
 }

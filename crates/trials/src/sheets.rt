@@ -1,12 +1,12 @@
 // Papers for the trials, written word by word.
 use std::alloc::{AllocError, Global};
+use words::Refusal;
 
-// A paper, and the number and place of the refusal that it meets: 0 and 0 where it is accepted.
+// A paper, and the number and the place of the refusal that it meets, if it meets one.
 #[derive(Clone, Copy)]
 pub struct Trial {
     pub words: &'static [u32],
-    pub number: u32,
-    pub place: usize,
+    pub refused: Option<(u32, usize)>,
 }
 
 // Three tanks and two valves: valve 0 takes 1 from tank 0 and gives 1 to tank 1, valve 1 takes 1 from each of tanks 1 and 2 and gives 2 to tank 2.
@@ -18,6 +18,20 @@ pub static MIXER: [u32; 6] = [
     0x3001_0001,
     0x3042_0002,
 ];
+
+// The number and the place of the refusal, if the answer is one.
+pub fn refusal_of<T: Drop, F: Drop>(answer: Result<T, F>) -> Option<(u32, usize)>
+where
+    Refusal: From<F>,
+{
+    match answer {
+        Ok(_) => None,
+        Err(fault) => {
+            let Refusal { number, place, .. } = Refusal::from(fault);
+            Some((number, place))
+        }
+    }
+}
 
 // One word more.
 pub fn put(bytes: &mut Vec<u8>, word: u32) -> Result<(), AllocError> {

@@ -1,5 +1,5 @@
 // What weighings answer: the number and the place of the first fault, or that the fillings are joined.
-use crate::sheets::{MIXER, Trial, written};
+use crate::sheets::{MIXER, Trial, refusal_of, written};
 use paper::PaperPlant;
 use plant::limits::MOST_VALVES;
 use plant::{Narrowed, Plant, RingMain, Turned};
@@ -14,23 +14,11 @@ use words::{PaperFault, Part, Refusal, WordFault};
 struct Asked {
     source: &'static [u32],
     target: &'static [u32],
-    number: u32,
-    place: usize,
+    refused: Option<(u32, usize)>,
 }
 
 // A totals paper of divisor 1 without totals.
 static NO_TOTALS: [u8; 4] = [0x40, 0, 0, 1];
-
-// The number and the place of what a weighing meets.
-fn met<P: Plant>(plant: &P, source: &[u32], target: &[u32], evidence: &[u8]) -> (u32, usize) {
-    match weigh(plant, source, target, evidence) {
-        Ok(_) => (0, 0),
-        Err(fault) => {
-            let refusal = fault.refusal();
-            (refusal.number, refusal.place)
-        }
-    }
-}
 
 // On a ring of two tanks.
 static FILLINGS: [Asked; 13] = [
@@ -38,82 +26,69 @@ static FILLINGS: [Asked; 13] = [
     Asked {
         source: &[0, 0],
         target: &[0, 0],
-        number: 0,
-        place: 0,
+        refused: None,
     },
     Asked {
         source: &[0],
         target: &[0, 0],
-        number: 10,
-        place: 0,
+        refused: Some((10, 0)),
     },
     Asked {
         source: &[0, 0, 0],
         target: &[0, 0],
-        number: 10,
-        place: 0,
+        refused: Some((10, 0)),
     },
     Asked {
         source: &[0, 0],
         target: &[0],
-        number: 10,
-        place: 1,
+        refused: Some((10, 1)),
     },
     Asked {
         source: &[0, 0],
         target: &[0, 0, 0],
-        number: 10,
-        place: 1,
+        refused: Some((10, 1)),
     },
     Asked {
         source: &[],
         target: &[],
-        number: 10,
-        place: 0,
+        refused: Some((10, 0)),
     },
     // 1,000,000 and 1,000,001
     Asked {
         source: &[1_000_000, 0],
         target: &[1_000_000, 0],
-        number: 0,
-        place: 0,
+        refused: None,
     },
     Asked {
         source: &[1_000_001, 0],
         target: &[0, 0],
-        number: 11,
-        place: 0,
+        refused: Some((11, 0)),
     },
     Asked {
         source: &[0, 1_000_001],
         target: &[0, 0],
-        number: 11,
-        place: 1,
+        refused: Some((11, 1)),
     },
     Asked {
         source: &[0, 0],
         target: &[1_000_001, 0],
-        number: 11,
-        place: 64,
+        refused: Some((11, 64)),
     },
     Asked {
         source: &[0, 0],
         target: &[0, 1_000_001],
-        number: 11,
-        place: 65,
+        refused: Some((11, 65)),
     },
     // the source before the target, lengths before amounts
     Asked {
         source: &[0, 1_000_001],
         target: &[1_000_001, 0],
-        number: 11,
-        place: 1,
+        refused: Some((11, 1)),
     },
     Asked {
         source: &[1_000_001, 0],
         target: &[0],
-        number: 10,
-        place: 1,
+        refused: Some((10, 1)),
     },
 ];
 
@@ -122,8 +97,8 @@ fn fillings(rt: HostRuntime) {
     let ring = RingMain::new(2);
     for asked in FILLINGS {
         assert_eq!(rt;
-            met(&ring, asked.source, asked.target, &NO_TOTALS),
-            (asked.number, asked.place)
+            refusal_of(weigh(&ring, asked.source, asked.target, &NO_TOTALS)),
+            asked.refused
         );
     }
 }
@@ -135,21 +110,27 @@ fn last_of_64_tanks(rt: HostRuntime) {
     let low = [0; 64];
     let mut high = [0; 64];
     high[63] = 1_000_001;
-    assert_eq!(rt; met(&ring, &high, &low, &NO_TOTALS), (11, 63));
-    assert_eq!(rt; met(&ring, &low, &high, &NO_TOTALS), (11, 127));
+    assert_eq!(rt;
+        refusal_of(weigh(&ring, &high, &low, &NO_TOTALS)),
+        Some((11, 63))
+    );
+    assert_eq!(rt;
+        refusal_of(weigh(&ring, &low, &high, &NO_TOTALS)),
+        Some((11, 127))
+    );
     high[63] = 1_000_000;
-    assert_eq!(rt; met(&ring, &high, &high, &NO_TOTALS), (0, 0));
+    assert_eq!(rt; refusal_of(weigh(&ring, &high, &high, &NO_TOTALS)), None);
 }
 
 // Both valves of a ring of two tanks totalled: a closed one is refused at its word.
 #[test]
 fn closed_valves(rt: HostRuntime) -> Result<(), Fail> {
     let both = written(rt.alloc(), &[0x4000_0001, 0x5000_0001, 0x5040_0001])?;
-    for (first, second, number, place) in [
-        (false, false, 0, 0),
-        (true, false, 12, 1),
-        (false, true, 12, 2),
-        (true, true, 12, 1),
+    for (first, second, refused) in [
+        (false, false, None),
+        (true, false, Some((12, 1))),
+        (false, true, Some((12, 2))),
+        (true, true, Some((12, 1))),
     ] {
         let mut shut = [false; MOST_VALVES];
         shut[0] = first;
@@ -158,7 +139,10 @@ fn closed_valves(rt: HostRuntime) -> Result<(), Fail> {
             below: RingMain::new(2),
             shut,
         };
-        assert_eq!(rt; met(&narrowed, &[1, 0], &[1, 0], &both), (number, place));
+        assert_eq!(rt;
+            refusal_of(weigh(&narrowed, &[1, 0], &[1, 0], &both)),
+            refused
+        );
     }
     Ok(())
 }
@@ -167,48 +151,39 @@ fn closed_valves(rt: HostRuntime) -> Result<(), Fail> {
 static EVIDENCE: [Trial; 9] = [
     Trial {
         words: &[0x4000_0001, 0x5000_0002, 0x5040_0002],
-        number: 0,
-        place: 0,
+        refused: None,
     },
     Trial {
         words: &[0x4000_0002, 0x5000_0004, 0x5040_0004],
-        number: 0,
-        place: 0,
+        refused: None,
     },
     Trial {
         words: &[],
-        number: 2,
-        place: 0,
+        refused: Some((2, 0)),
     },
     Trial {
         words: &[0x6000_0000],
-        number: 4,
-        place: 0,
+        refused: Some((4, 0)),
     },
     Trial {
         words: &[0x4000_0001, 0x5000_0002, 0x5040_0000],
-        number: 7,
-        place: 2,
+        refused: Some((7, 2)),
     },
     Trial {
         words: &[0x4000_0001, 0x5000_0002, 0x5080_0001],
-        number: 7,
-        place: 2,
+        refused: Some((7, 2)),
     },
     Trial {
         words: &[0x4000_0001, 0x5040_0002, 0x5000_0002],
-        number: 8,
-        place: 2,
+        refused: Some((8, 2)),
     },
     Trial {
         words: &[0x4000_0001],
-        number: 13,
-        place: 0,
+        refused: Some((13, 0)),
     },
     Trial {
         words: &[0x4000_0001, 0x5000_0002, 0x5040_0001],
-        number: 13,
-        place: 1,
+        refused: Some((13, 1)),
     },
 ];
 
@@ -219,8 +194,8 @@ fn evidence(rt: HostRuntime) -> Result<(), Fail> {
     for trial in EVIDENCE {
         let evidence = written(rt.alloc(), trial.words)?;
         assert_eq!(rt;
-            met(&mixer, &[2, 0, 1], &[0, 0, 3], &evidence),
-            (trial.number, trial.place)
+            refusal_of(weigh(&mixer, &[2, 0, 1], &[0, 0, 3], &evidence)),
+            trial.refused
         );
     }
     Ok(())
@@ -231,26 +206,22 @@ static STARTS: [Asked; 4] = [
     Asked {
         source: &[2, 0, 1],
         target: &[0, 0, 3],
-        number: 0,
-        place: 0,
+        refused: None,
     },
     Asked {
         source: &[2, 0, 0],
         target: &[0, 0, 2],
-        number: 14,
-        place: 1,
+        refused: Some((14, 1)),
     },
     Asked {
         source: &[2, 0, 1],
         target: &[0, 0, 2],
-        number: 13,
-        place: 2,
+        refused: Some((13, 2)),
     },
     Asked {
         source: &[2, 0, 0],
         target: &[0, 0, 3],
-        number: 13,
-        place: 2,
+        refused: Some((13, 2)),
     },
 ];
 
@@ -261,8 +232,8 @@ fn starts(rt: HostRuntime) -> Result<(), Fail> {
     let evidence = written(rt.alloc(), &[0x4000_0001, 0x5000_0002, 0x5040_0002])?;
     for asked in STARTS {
         assert_eq!(rt;
-            met(&mixer, asked.source, asked.target, &evidence),
-            (asked.number, asked.place)
+            refusal_of(weigh(&mixer, asked.source, asked.target, &evidence)),
+            asked.refused
         );
     }
     Ok(())
@@ -274,8 +245,11 @@ fn ends(rt: HostRuntime) -> Result<(), Fail> {
     let bytes = written(rt.alloc(), &[0x1000_0081, 0x2000_0002, 0x3000_0001])?;
     let leaky = PaperPlant::new(&bytes);
     let evidence = written(rt.alloc(), &[0x4000_0001, 0x5000_0001])?;
-    assert_eq!(rt; met(&leaky, &[2], &[1], &evidence), (0, 0));
-    assert_eq!(rt; met(&leaky, &[1], &[0], &evidence), (15, 0));
+    assert_eq!(rt; refusal_of(weigh(&leaky, &[2], &[1], &evidence)), None);
+    assert_eq!(rt;
+        refusal_of(weigh(&leaky, &[1], &[0], &evidence)),
+        Some((15, 0))
+    );
     Ok(())
 }
 
@@ -284,24 +258,24 @@ fn ends(rt: HostRuntime) -> Result<(), Fail> {
 fn largest_numbers(rt: HostRuntime) -> Result<(), Fail> {
     let ring = RingMain::new(2);
     let evidence = written(rt.alloc(), &[0x400f_4240, 0x500f_4240])?;
-    assert_eq!(rt; met(&ring, &[1, 0], &[0, 1], &evidence), (0, 0));
+    assert_eq!(rt; refusal_of(weigh(&ring, &[1, 0], &[0, 1], &evidence)), None);
     assert_eq!(rt;
-        met(
+        refusal_of(weigh(
             &ring,
             &[1_000_000, 999_999],
             &[999_999, 1_000_000],
             &evidence,
-        ),
-        (0, 0)
+        )),
+        None
     );
     assert_eq!(rt;
-        met(
+        refusal_of(weigh(
             &ring,
             &[1_000_000, 1_000_000],
             &[1_000_000, 1_000_000],
             &evidence,
-        ),
-        (13, 0)
+        )),
+        Some((13, 0))
     );
     Ok(())
 }
@@ -310,11 +284,14 @@ fn largest_numbers(rt: HostRuntime) -> Result<(), Fail> {
 #[test]
 fn empty_plant(rt: HostRuntime) {
     let empty = RingMain::new(1);
-    assert_eq!(rt; met(&empty, &[], &[], &NO_TOTALS), (0, 0));
-    assert_eq!(rt; met(&empty, &[0], &[], &NO_TOTALS), (10, 0));
+    assert_eq!(rt; refusal_of(weigh(&empty, &[], &[], &NO_TOTALS)), None);
     assert_eq!(rt;
-        met(&empty, &[], &[], &[0x40, 0, 0, 1, 0x50, 0, 0, 1]),
-        (7, 1)
+        refusal_of(weigh(&empty, &[0], &[], &NO_TOTALS)),
+        Some((10, 0))
+    );
+    assert_eq!(rt;
+        refusal_of(weigh(&empty, &[], &[], &[0x40, 0, 0, 1, 0x50, 0, 0, 1])),
+        Some((7, 1))
     );
 }
 
@@ -404,6 +381,6 @@ fn refusals_of_weighings(rt: HostRuntime) {
             place,
             part,
         };
-        assert_eq!(rt; fault.refusal(), refusal);
+        assert_eq!(rt; Refusal::from(fault), refusal);
     }
 }
