@@ -1,7 +1,7 @@
 -- The matches of a step, each with the line of the case reached that it stands for.
 use Rattle.std.proofs.Common.{◌≡◌, ℕ, zero, suc, ◌+◌, ◌<◌, Bool, true, false, not, List, [], ◌∷◌, map, length, get_or, Some, None, Option, MatchOption, sym, refl, ap, ◌∙◌, subst, arith}
 use Rattle.std.specs.List.{zip, AllWithin, HoldsAt}
-use Rattle.std.proofs.lemmas.List.{get_or-map, length-map}
+use Rattle.std.proofs.lemmas.List.{get_or-map}
 use Rattle.std.proofs.lemmas.Bool.{cond-true}
 use Rattle.std.proofs.lemmas.Slice.Zip.{length-zip, get_or-zip}
 use Rattle.plant.specs.Net.{Net}
@@ -11,7 +11,7 @@ use Rattle.barriers.specs.Lines.{Case, Barrier, no_line, line_at, case_at}
 use Rattle.barriers.specs.Steps.{Way, Match, Step, no_match}
 use Rattle.barriers.specs.Tests.{good?}
 use Rattle.starting.specs.Starting.{first_below}
-use Rattle.starting.proofs.Firsts.{Answers, first_is}
+use Rattle.starting.proofs.Firsts.{Found, first_is}
 use Rattle.lines.specs.OfLine.{line_meant}
 use Rattle.lines.specs.declared.line.LineWeights.{LineWeights}
 use Rattle.barrier_paper.specs.Document.{match_said}
@@ -59,7 +59,7 @@ module _ (N : Net) (way : Way) (t : ℕ) (φ : Case) where
         → r ≡ first_below (length ws) (λ k. not (good_match (map line_meant xs) (map match_said ws) k))
     searched r h = first_is _ _ r (answers r h)
       where
-        answers : (r : Option ℕ) → MatchOption r (AllWithin (Told true) pairs 0 (length pairs)) (λ i. (i < length pairs) × HoldsAt (Told false) pairs i × AllWithin (Told true) pairs 0 i) → Answers (λ k. not (good_match (map line_meant xs) (map match_said ws) k)) (length ws) r
+        answers : (r : Option ℕ) → MatchOption r (AllWithin (Told true) pairs 0 (length pairs)) (λ i. (i < length pairs) × HoldsAt (Told false) pairs i × AllWithin (Told true) pairs 0 i) → Found (λ k. not (good_match (map line_meant xs) (map match_said ws) k)) (length ws) r
         answers None h = λ k l. ap not (told k true l (λ d. h k d (omega arith) (omega (arith, length_pairs))))
         answers (Some i) h =
             let inside : i < length ws = omega (arith, h.0, length_pairs) in

@@ -36,7 +36,7 @@ impl From<BarrierPaperFault> for Refusal {
     fn from(fault: BarrierPaperFault) -> Refusal {
         match fault {
             BarrierPaperFault::Paper(fault) => Refusal::from(fault),
-            BarrierPaperFault::Barrier(fault) => fault.refusal(),
+            BarrierPaperFault::Barrier(fault) => Refusal::from(fault),
         }
     }
 }

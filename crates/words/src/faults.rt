@@ -74,8 +74,8 @@ pub enum PaperFault {
 impl From<WordFault> for PaperFault {
     ghost from_gives = { λ x y. y ≡ Words x };
 
-    fn from(fault: WordFault) -> PaperFault {
-        PaperFault::Words(fault)
+    fn from(value: WordFault) -> PaperFault {
+        PaperFault::Words(value)
     }
 }
 

@@ -1,10 +1,9 @@
-use Rattle.std.proofs.Common.{◌≡◌, ℕ, ◌<◌, true, false, map, length, get_or, sym, ap, ◌∙◌, arith, rules, tests}
+use Rattle.std.proofs.Common.{◌≡◌, true, false, length, get_or, sym, ap, ◌∙◌, arith, rules, tests}
 use Rattle.std.proofs.lemmas.List.{length-map}
 use Rattle.std.proofs.lemmas.Iterator.{YieldsList-from_slice, YieldsList-from_zip, IsFirst-from_position}
 use Rattle.std.proofs.lemmas.Iterator.Consumers.{YieldsList-at}
 use Rattle.words.specs.Words.{words}
 use Rattle.barriers.specs.Lines.{case_at}
-use Rattle.lines.specs.OfLine.{line_meant}
 use Rattle.lines.specs.OfWay.{way_meant}
 use Rattle.barrier_paper.specs.Document.{barrier_of, match_said}
 use Rattle.barrier_paper.specs.OfBarrier.{barrier_said}

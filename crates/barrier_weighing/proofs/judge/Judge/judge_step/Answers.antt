@@ -1,7 +1,6 @@
-use Rattle.std.proofs.Common.{◌≡◌, ℕ, ◌+◌, ◌^◌, ◌<◌, length, Some, None, Option, Result, refl, arith, rules}
+use Rattle.std.proofs.Common.{◌^◌, ◌<◌, length, Some, None, refl, arith, rules}
 use Rattle.std.proofs.lemmas.List.{length-map}
 use Rattle.words.specs.Words.{words}
-use Rattle.words.specs.Faults.{refusing}
 use Rattle.words.proofs.Laws.{length_words}
 use Rattle.barrier_paper.specs.Document.{barrier_of, match_said}
 use Rattle.barrier_paper.specs.OfBarrier.{barrier_said}
@@ -9,7 +8,6 @@ use Rattle.barrier_rule.specs.Judgement.{first_bad}
 use Rattle.barrier_weighing.specs.OfMatches.{whole_step}
 use Rattle.barrier_weighing.proofs.Steps.{bad_below, step_answer}
 use Rattle.barrier_weighing.proofs.judge.Judge.judge_step.Goals as goal
-use Rattle.barrier_weighing.proofs.judge.Judge.judge_step.Given as given
 
 pub returns-in-Some : goal.returns-in-Some
 returns-in-Some g c =
