@@ -65,9 +65,4 @@ module _ (bs : List ℕ) (small : Bytes bs) where
 -- only the verdict is printed so
 pub says_joined : (r : Result Verdict DossierFault) → line_of r ≡ codes "JOINED\n" → r ≡ Ok Joined
 says_joined (Ok Joined) e = refl
-says_joined (Err f) e = absurd (let z : ◌≡◌ {A = ℕ} 82 74 = cc in omega arith)
-
--- what holds of a value that was made
-pub made_so : {X Y : Type 0} (r : Result X Y) (P Q : X → Type 0) → ((x : X) → P x → Q x) → IfOk r P → IfOk r Q
-made_so (Ok x) P Q f h = f x h
-made_so (Err y) P Q f h = tt
+says_joined (Err f) e = absurd (cc)

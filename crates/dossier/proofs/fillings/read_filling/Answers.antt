@@ -9,4 +9,3 @@ pub loop-word-init : goal.loop-word-init
 loop-word-init c =
     let all = ap to_come c.into_iter-word-iterator.ensures.into_iter_gives ∙ all_to_come c.new-word-items.result c.args.part.now c.new-word-items.ensures.at c.new-word-items.ensures.bytes in
     (tt, tt, rw (all, c.new-amounts.ensures) (placed_in_place 0 (words c.args.part.now)), rw (all, c.new-amounts.ensures) (reads_all (words c.args.part.now)))
-
