@@ -509,15 +509,15 @@ fn one_tank(rt: HostRuntime) -> Result<(), Fail> {
 const PIPE: [u32; 3] = [0x1000_0101, 0x2000_0001, 0x3001_0001];
 
 // What a barrier with such a line meets on it from (2,2) to (1,1), and on the turned plant.
-fn either_met(heap: Global, line: &[u32]) -> Result<((u32, usize), (u32, usize)), AllocError> {
+fn either_met(heap: Global, line: &[u32]) -> Result<[Option<(u32, usize)>; 2], AllocError> {
     let bytes = written(heap, &PIPE)?;
     let pipe = PaperPlant::new(&bytes);
     let evidence = kept(heap, line)?;
-    let found = met(&pipe, &[2, 2], &[1, 1], &evidence);
-    Ok((
-        found,
-        met(&Turned { below: pipe }, &[2, 2], &[1, 1], &evidence),
-    ))
+    let turned = Turned { below: &pipe };
+    Ok([
+        met(&pipe, &[2, 2], &[1, 1], &evidence),
+        met(&turned, &[2, 2], &[1, 1], &evidence),
+    ])
 }
 
 // Forward the tank of the right weight counts, backward that of the left one; the turned plant gives where this one takes.
@@ -525,10 +525,16 @@ fn either_met(heap: Global, line: &[u32]) -> Result<((u32, usize), (u32, usize))
 fn either_end(rt: HostRuntime) -> Result<(), Fail> {
     // m(0) <= m'(1): forward 1, backward -1
     let first = [0x7000_0000, 0x8000_0001, 0x9040_0001];
-    assert_eq!(rt; either_met(rt.alloc(), &first)?, ((20, 7), (20, 5)));
+    assert_eq!(rt;
+        either_met(rt.alloc(), &first)?,
+        [Some((20, 7)), Some((20, 5))]
+    );
     // m(1) <= m'(0): forward -1
     let second = [0x7000_0000, 0x8040_0001, 0x9000_0001];
-    assert_eq!(rt; either_met(rt.alloc(), &second)?, ((20, 5), (20, 7)));
+    assert_eq!(rt;
+        either_met(rt.alloc(), &second)?,
+        [Some((20, 5)), Some((20, 7))]
+    );
     Ok(())
 }
 
