@@ -17,12 +17,12 @@ use Rattle.barrier_weighing.proofs.judge.Judge.first_bad.Goals as goal
 
 pub bounds-deref-step : goal.bounds-deref-step
 bounds-deref-step g c =
-    let inside = there c.args.self.now.cases (barrier_said c.args.self.now.paper.now) c.args.self.now.meant _ _ c.from-step.ensures.from c.requires.from_there in
+    let inside = there c.args.self.now.cases (barrier_said c.args.self.now.paper.now) c.args.self.now.meant c.from-step.ensures.from c.requires.from_there in
     omega (arith, inside, ap length c.deref.ensures.0)
 
 pub bounds-deref-step-2 : goal.bounds-deref-step-2
 bounds-deref-step-2 g c =
-    let inside = there c.args.self.now.cases (barrier_said c.args.self.now.paper.now) c.args.self.now.meant _ _ c.from-step.ensures.to c.requires.to_there in
+    let inside = there c.args.self.now.cases (barrier_said c.args.self.now.paper.now) c.args.self.now.meant c.from-step.ensures.to c.requires.to_there in
     omega (arith, inside, ap length c.deref-2.ensures.0)
 
 pub returns : goal.returns
@@ -36,13 +36,13 @@ returns g c =
     let to = c.index-deref-step-2.result in
     let ws = words c.args.matches.now in
     let left : case_meant from ≡ case_at (barrier_of d) s.from =
-    ap case_meant (c.index-deref-step.is ∙ ap (λ xs. get_or xs c.from-step.result.from from) c.deref.ensures.0) ∙ case_is c.args.self.now.cases d c.args.self.now.meant _ _ c.from-step.ensures.from c.requires.from_there from in
+    ap case_meant (c.index-deref-step.is ∙ ap (λ xs. get_or xs c.from-step.result.from from) c.deref.ensures.0) ∙ case_is c.args.self.now.cases d c.args.self.now.meant c.from-step.ensures.from c.requires.from_there from in
     let right : case_meant to ≡ case_at (barrier_of d) s.to =
-    ap case_meant (c.index-deref-step-2.is ∙ ap (λ xs. get_or xs c.from-step.result.to to) c.deref-2.ensures.0) ∙ case_is c.args.self.now.cases d c.args.self.now.meant _ _ c.from-step.ensures.to c.requires.to_there to in
+    ap case_meant (c.index-deref-step-2.is ∙ ap (λ xs. get_or xs c.from-step.result.to to) c.deref-2.ensures.0) ∙ case_is c.args.self.now.cases d c.args.self.now.meant c.from-step.ensures.to c.requires.to_there to in
     let found = IsFirst-from_position c.position.new.self _ c.position.result (Told M way t (case_meant from) false) (Told M way t (case_meant from) true) c.position.ensures.ran
     (YieldsList-from_zip (YieldsList-at c.zip-matched.ensures.first (all_given c.new.result c.args.matches.now c.new.ensures.at c.new.ensures.bytes)) (YieldsList-from_slice to.items c.zip-matched.ensures.second.0))
     (λ x q k l. search (rules, tests))
     (λ x q k. (search rules, λ l. search (rules, tests))) in
-    searched M way t (case_meant from) ws to.items (matched _ d _ ws c.requires to.items right) (named _ d _ ws c.requires (case_meant from) left) c.position.result found
-    ∙ bad_is (g.P.Plant.meaning c.args.self.now.plant.now) (barrier_of d) s M way t (length ws) (case_meant from) (case_meant to) (ap (g.P.Plant.meaning) c.of_plant-valve.ensures.plant) c.from-step.ensures.way (c.of_plant-valve.ensures.valve ∙ c.from-step.ensures.valve)
-    (sym (length-map ws match_said)) left right (ap (g.P.Plant.meaning c.args.self.now.plant.now).opens (sym c.from-step.ensures.valve) ∙ sym c.if-not-is_open.ensures)
+    searched M way t (case_meant from) ws to.items (matched d _ ws c.requires to.items right) (named d _ ws c.requires left) c.position.result found
+    ∙ bad_is (g.P.Plant.meaning c.args.self.now.plant.now) (barrier_of d) s (ap (g.P.Plant.meaning) c.of_plant-valve.ensures.plant) c.from-step.ensures.way (c.of_plant-valve.ensures.valve ∙ c.from-step.ensures.valve)
+      (sym (length-map ws match_said)) left right (ap (g.P.Plant.meaning c.args.self.now.plant.now).opens (sym c.from-step.ensures.valve) ∙ sym c.if-not-is_open.ensures)

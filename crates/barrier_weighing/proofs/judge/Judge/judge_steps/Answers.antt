@@ -60,12 +60,12 @@ module _ (g : given.Over) (c : After-from g) where
   -- it has as many matches as the case that it reaches has lines
   all : {due : ℕ} {z : ArrayVec LineWeights} → z ≡ get_or c.deref.result.now c.from.result.to z → due ≡ length z.items → due ≡ length next.step.matches
   all {z = z} z_is due_is =
-      let lines = lines_are c.args.self.now.cases d c.args.self.now.meant _ _ reaches next.fit.to_there z in
+      let lines = lines_are c.args.self.now.cases d c.args.self.now.meant reaches next.fit.to_there z in
       due_is ∙ ap (λ x. length x.items) (z_is ∙ ap (λ xs. get_or xs c.from.result.to z) c.deref.ensures.0) ∙ lines ∙ sym next.fit.matched
 
 pub bounds-deref-from : goal.bounds-deref-from
 bounds-deref-from g c =
-    let inside = there c.args.self.now.cases (barrier_said c.args.self.now.paper.now) c.args.self.now.meant _ _ (reaches g c) (next g c).fit.to_there in
+    let inside = there c.args.self.now.cases (barrier_said c.args.self.now.paper.now) c.args.self.now.meant (reaches g c) (next g c).fit.to_there in
     omega (arith, inside, ap length c.deref.ensures.0)
 
 pub split_at-requires : goal.split_at-requires
