@@ -82,7 +82,7 @@ module _ {N : Net} {d : BarrierDocument} {whole : Result (Unit {0}) BarrierFault
     whole_is : whole_step w (words ms) ≡ n.step
     whole_is =
         let front_is : words ms ≡ map match_word n.step.matches =
-            ap words front ∙ words_take due vs ∙ rw (due_is, tail_is) (take_at _ _ (length n.step.matches) (length-map n.step.matches match_word)) in
+        ap words front ∙ words_take due vs ∙ rw (due_is, tail_is) (take_at _ _ (length n.step.matches) (length-map n.step.matches match_word)) in
         rw (front_is, said n.step.matches n.fit.matches_fit) step_is
 
     pub whole_fits : StepFits N.valves d.cases (whole_step w (words ms))

@@ -1,5 +1,5 @@
 -- The cases that are read from a paper are those of its document.
-use Rattle.std.proofs.Common.{◌≡◌, ℕ, ◌<◌, min, List, [], map, length, sym, ◌∙◌, arith}
+use Rattle.std.proofs.Common.{◌≡◌, ℕ, ◌<◌, min, List, [], map, length, sym, arith}
 use Rattle.std.specs.List.{range_with_len}
 use Rattle.std.proofs.lemmas.List.FromFn.{fill_by_all}
 use Rattle.std.proofs.ByRecursion.{All-get_or, All-from_get_or}

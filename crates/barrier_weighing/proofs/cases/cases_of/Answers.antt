@@ -1,7 +1,6 @@
-use Rattle.std.proofs.Common.{map, min, ◌∙◌, ap, arith, rules}
+use Rattle.std.proofs.Common.{map, ◌∙◌, ap, arith}
 use Rattle.std.specs.List.{range_with_len}
 use Rattle.words.specs.Words.{words}
-use Rattle.barrier_paper.specs.Limits.{most_cases}
 use Rattle.barrier_paper.specs.Windows.{case_part}
 use Rattle.barrier_paper.specs.OfBarrier.{barrier_said}
 use Rattle.barrier_weighing.specs.OfCases.{case_meant, case_said}

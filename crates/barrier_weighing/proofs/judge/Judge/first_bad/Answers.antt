@@ -1,10 +1,9 @@
-use Rattle.std.proofs.Common.{◌≡◌, ℕ, ◌<◌, true, false, map, length, get_or, sym, ap, ◌∙◌, arith, rules, tests}
+use Rattle.std.proofs.Common.{◌≡◌, true, false, length, get_or, sym, ap, ◌∙◌, arith, rules, tests}
 use Rattle.std.proofs.lemmas.List.{length-map}
 use Rattle.std.proofs.lemmas.Iterator.{YieldsList-from_slice, YieldsList-from_zip, IsFirst-from_position}
 use Rattle.std.proofs.lemmas.Iterator.Consumers.{YieldsList-at}
 use Rattle.words.specs.Words.{words}
 use Rattle.barriers.specs.Lines.{case_at}
-use Rattle.lines.specs.OfLine.{line_meant}
 use Rattle.lines.specs.OfWay.{way_meant}
 use Rattle.barrier_paper.specs.Document.{barrier_of, match_said}
 use Rattle.barrier_paper.specs.OfBarrier.{barrier_said}
@@ -45,4 +44,4 @@ returns g c =
     (λ x q k. (search rules, λ l. search (rules, tests))) in
     searched M way t (case_meant from) ws to.items (matched d _ ws c.requires to.items right) (named d _ ws c.requires left) c.position.result found
     ∙ bad_is (g.P.Plant.meaning c.args.self.now.plant.now) (barrier_of d) s (ap (g.P.Plant.meaning) c.of_plant-valve.ensures.plant) c.from-step.ensures.way (c.of_plant-valve.ensures.valve ∙ c.from-step.ensures.valve)
-      (sym (length-map ws match_said)) left right (ap (g.P.Plant.meaning c.args.self.now.plant.now).opens (sym c.from-step.ensures.valve) ∙ sym c.if-not-is_open.ensures)
+    (sym (length-map ws match_said)) left right (ap (g.P.Plant.meaning c.args.self.now.plant.now).opens (sym c.from-step.ensures.valve) ∙ sym c.if-not-is_open.ensures)

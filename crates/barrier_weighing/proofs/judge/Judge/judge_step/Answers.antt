@@ -1,4 +1,4 @@
-use Rattle.std.proofs.Common.{◌≡◌, ℕ, ◌+◌, ◌^◌, ◌<◌, ◌≤◌, length, Some, None, Ok, Option, refl, arith, rules}
+use Rattle.std.proofs.Common.{◌≡◌, ℕ, ◌+◌, ◌^◌, ◌<◌, length, Some, None, Ok, Option, refl, arith, rules}
 use Rattle.std.proofs.lemmas.List.{length-map}
 use Rattle.plant.specs.Net.{Net}
 use Rattle.words.specs.Words.{words}

@@ -1,22 +1,21 @@
-use Rattle.std.proofs.Common.{◌≡◌, ℕ, ◌+◌, ◌*◌, ◌/◌, ◌≤◌, List, length, get_or, take, drop, Some, None, Ok, Err, Result, sym, ap, ◌∙◌, arith, length-append}
+use Rattle.std.proofs.Common.{◌≡◌, ℕ, ◌*◌, ◌≤◌, length, get_or, Some, None, Result, sym, ap, ◌∙◌, arith, length-append}
 use Rattle.std.proofs.lemmas.Result.{err_from_is_err_and}
 use Rattle.arrayvec.specs.ArrayVec.{ArrayVec}
 use Rattle.plant.specs.Net.{Net}
 use Rattle.words.specs.Words.{words}
 use Rattle.words.proofs.Laws.{length_words}
 use Rattle.words.proofs.Placing.{none_left}
-use Rattle.barrier_paper.specs.Document.{BarrierDocument, BarrierFormed, StepFits, barrier_of, joined, case_words}
+use Rattle.barrier_paper.specs.Document.{BarrierDocument, BarrierFormed, barrier_of, joined, case_words}
 use Rattle.barrier_paper.specs.OfBarrier.{barrier_said}
 use Rattle.barrier_paper.specs.Windows.{before_steps, steps_part}
 use Rattle.barrier_paper.proofs.Parts.{steps_found, before_steps_found}
 use Rattle.barrier_paper.proofs.Seeking.{steps_last}
 use Rattle.barrier_rule.specs.declared.faults.BarrierFault.{BarrierFault}
-use Rattle.barrier_rule.specs.Judgement.{step_judged, steps_judged}
+use Rattle.barrier_rule.specs.Judgement.{steps_judged}
 use Rattle.lines.specs.declared.line.LineWeights.{LineWeights}
-use Rattle.barrier_weighing.specs.OfMatches.{whole_step}
 use Rattle.barrier_weighing.proofs.Reading.{formed_of}
 use Rattle.barrier_weighing.proofs.Steps.{there, lines_are}
-use Rattle.barrier_weighing.proofs.Going.{Going, NextStep, after, read_next, peel, last, to_is, enough, whole_fits, goes_on, refuses}
+use Rattle.barrier_weighing.proofs.Going.{NextStep, after, read_next, peel, last, to_is, enough, whole_fits, goes_on, refuses}
 use Rattle.barrier_weighing.proofs.judge.Judge.judge_steps.Given as given
 use Rattle.barrier_weighing.proofs.judge.Judge.judge_steps.Goals as goal
 use Rattle.barrier_weighing.proofs.judge.Judge.judge_steps.Goals.{After-from}
@@ -93,8 +92,7 @@ loop-word-smaller g c =
 pub loop-word-preserved : goal.loop-word-preserved
 loop-word-preserved g c =
     let a = (goal.at.loop-word-preserved g c).After-from in
-    let read = read_next c.loop-word.rest.now c.in-Some.word c.in-Some.ensures in
-    (
+    let read = read_next c.loop-word.rest.now c.in-Some.word c.in-Some.ensures in (
       omega (arith, c.loop-word.invariant.0, ap length read, c.split_at.ensures.front_len, c.split_at.ensures.back_len, length_words c.split_at.result.1.now, length_words (after c.loop-word.rest.now)),
       goes_on (formed g a) _ (next g a) (all g a c.index-deref-from.is c.len-due.ensures.value) c.split_at.ensures.front c.split_at.ensures.back c.in_ok-next.next c.in_ok-next.ensures,
     )
