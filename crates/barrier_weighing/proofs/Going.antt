@@ -68,6 +68,9 @@ module _ {N : Net} {d : BarrierDocument} {whole : Result (Unit {0}) BarrierFault
   step_is : step_said w n.step.matches ≡ n.step
   step_is = ap (λ v. step_said v n.step.matches) head_is ∙ (step_says N.valves d.cases f.few_cases n.step n.fit).step_is
 
+  pub from_is : (step_said w []).from ≡ n.step.from
+  from_is = ap (λ (s : Step). s.from) step_is
+
   pub to_is : (step_said w []).to ≡ n.step.to
   to_is = ap (λ (s : Step). s.to) step_is
 

@@ -1,4 +1,4 @@
-use Rattle.std.proofs.Common.{◌≡◌, true, false, length, get_or, sym, ap, ◌∙◌, arith, rules, tests}
+use Rattle.std.proofs.Common.{◌≡◌, ◌<◌, true, false, length, get_or, sym, ap, ◌∙◌, arith, rules, tests}
 use Rattle.std.proofs.lemmas.List.{length-map}
 use Rattle.std.proofs.lemmas.Iterator.{YieldsList-from_slice, YieldsList-from_zip, IsFirst-from_position}
 use Rattle.std.proofs.lemmas.Iterator.Consumers.{YieldsList-at}
@@ -12,17 +12,22 @@ use Rattle.barrier_weighing.specs.OfCases.{case_meant}
 use Rattle.barrier_weighing.specs.OfMatches.{whole_step}
 use Rattle.barrier_weighing.proofs.Matched.{Told, searched, bad_is}
 use Rattle.barrier_weighing.proofs.Steps.{there, case_is, matched, named}
+use Rattle.barrier_weighing.proofs.judge.Judge.first_bad.Given as given
 use Rattle.barrier_weighing.proofs.judge.Judge.first_bad.Goals as goal
+use Rattle.barrier_weighing.proofs.judge.Judge.first_bad.Goals.{After-from-step}
+
+-- both cases are there
+module _ (g : given.Over) (c : After-from-step g) where
+  both : (c.from-step.result.from < length c.args.self.now.cases.items) × (c.from-step.result.to < length c.args.self.now.cases.items)
+  both =
+      let d = barrier_said c.args.self.now.paper.now in
+      (there c.args.self.now.cases d c.args.self.now.meant c.from-step.ensures.from c.requires.from_there, there c.args.self.now.cases d c.args.self.now.meant c.from-step.ensures.to c.requires.to_there)
 
 pub bounds-deref-step : goal.bounds-deref-step
-bounds-deref-step g c =
-    let inside = there c.args.self.now.cases (barrier_said c.args.self.now.paper.now) c.args.self.now.meant c.from-step.ensures.from c.requires.from_there in
-    omega (arith, inside, ap length c.deref.ensures.0)
+bounds-deref-step g c = let b = both g (goal.at.bounds-deref-step g c).After-from-step in omega (arith, b, ap length c.deref.ensures.0)
 
 pub bounds-deref-step-2 : goal.bounds-deref-step-2
-bounds-deref-step-2 g c =
-    let inside = there c.args.self.now.cases (barrier_said c.args.self.now.paper.now) c.args.self.now.meant c.from-step.ensures.to c.requires.to_there in
-    omega (arith, inside, ap length c.deref-2.ensures.0)
+bounds-deref-step-2 g c = let b = both g (goal.at.bounds-deref-step-2 g c).After-from-step in omega (arith, b, ap length c.deref-2.ensures.0)
 
 pub returns : goal.returns
 returns g c =

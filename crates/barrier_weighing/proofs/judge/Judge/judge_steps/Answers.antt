@@ -15,7 +15,7 @@ use Rattle.barrier_rule.specs.Judgement.{steps_judged}
 use Rattle.lines.specs.declared.line.LineWeights.{LineWeights}
 use Rattle.barrier_weighing.proofs.Reading.{formed_of}
 use Rattle.barrier_weighing.proofs.Steps.{there, lines_are}
-use Rattle.barrier_weighing.proofs.Going.{NextStep, after, read_next, peel, last, to_is, enough, whole_fits, goes_on, refuses}
+use Rattle.barrier_weighing.proofs.Going.{NextStep, after, read_next, peel, last, from_is, to_is, enough, whole_fits, goes_on, refuses}
 use Rattle.barrier_weighing.proofs.judge.Judge.judge_steps.Given as given
 use Rattle.barrier_weighing.proofs.judge.Judge.judge_steps.Goals as goal
 use Rattle.barrier_weighing.proofs.judge.Judge.judge_steps.Goals.{After-from}
@@ -64,8 +64,10 @@ module _ (g : given.Over) (c : After-from g) where
 
 pub bounds-deref-from : goal.bounds-deref-from
 bounds-deref-from g c =
-    let inside = there c.args.self.now.cases (barrier_said c.args.self.now.paper.now) c.args.self.now.meant (reaches g c) (next g c).fit.to_there in
-    omega (arith, inside, ap length c.deref.ensures.0)
+    let x = c.args.self.now.cases in
+    let meant = c.args.self.now.meant in
+    let leaves : c.from.result.from ≡ (next g c).step.from = c.from.ensures.from ∙ from_is (formed g c) (after c.loop-word.rest.now) (next g c) in
+    omega (arith, there x (d g c) meant leaves (next g c).fit.from_there, there x (d g c) meant (reaches g c) (next g c).fit.to_there, ap length c.deref.ensures.0)
 
 pub split_at-requires : goal.split_at-requires
 split_at-requires g c =
