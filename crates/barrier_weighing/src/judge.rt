@@ -1,5 +1,5 @@
 // A barrier paper on a plant: the steps of its barrier, in the order of their places, and the whole.
-ghost use Rattle.std.specs.Prelude.{◌≡◌, ℕ, ◌^◌, ◌<◌, length, IfSome};
+ghost use Rattle.std.specs.Prelude.{◌≡◌, ◌^◌, ◌<◌, length};
 ghost use Rattle.plant.specs.Walk.{held};
 ghost use Rattle.words.specs.Words.{words};
 ghost use Rattle.barriers.specs.Lines.{line_at};
