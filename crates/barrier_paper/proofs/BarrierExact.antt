@@ -15,7 +15,7 @@ use Rattle.barrier_paper.specs.Limits.{most_lines}
 use Rattle.barrier_paper.specs.Document.{CaseText, lines_in, StepFits, BarrierDocument, BarrierFormed, barrier_words, said, say, barrier_document}
 use Rattle.barrier_paper.specs.Form.{start, after_case, by_phase, barrier_step, ended, barrier_form, barrier_read}
 use Rattle.barrier_paper.specs.Inverse.{BarrierPapersAreExact}
-use Rattle.barrier_paper.proofs.WordParts.{case_good}
+use Rattle.barrier_paper.proofs.WordParts.{case_good, words_small}
 use Rattle.barrier_paper.proofs.Taking.{first_taken, between_ended}
 use Rattle.barrier_paper.proofs.States.{Sound}
 use Rattle.barrier_paper.proofs.Fronts.{StepCounted, Front}
@@ -89,13 +89,13 @@ written tanks valves (c ∷ cs) ss f =
     let g = begin_front tanks valves c cs ss f in
     let e = words_case (6 * 2 ^ 28) d case_good g in
     let r = write (map length (c ∷ cs)) (begin tanks valves) 1 (front_words d) d (begin_sound tanks valves) g refl in
-    (omega arith, rw e (record { end = r.end; runs = r.runs; ends = r.ends; says = ap (say (6 * 2 ^ 28)) r.says; small = (omega arith, r.small) }))
+    (omega arith, rw e (record { end = r.end; runs = r.runs; ends = r.ends; says = ap (say (6 * 2 ^ 28)) r.says }))
 
 written_is_read : (tanks valves : ℕ) (d : BarrierDocument) → BarrierFormed tanks valves d → barrier_read tanks valves (bytes (barrier_words d)) ≡ Ok d
 written_is_read tanks valves d f =
     let r = written tanks valves d.cases d.steps f in
     let count = counted_written most_evidence_words (barrier_words d) r.0 f.few_words in
-    let back = words_of_bytes (barrier_words d) r.1.small in
+    let back = words_of_bytes (barrier_words d) (words_small tanks valves d f) in
     let ends = between_ended r.1.end.phase (length (barrier_words d)) r.1.ends in
     simp (count, back, r.1.runs, ends, r.1.says)
 

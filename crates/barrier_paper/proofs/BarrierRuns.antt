@@ -2,13 +2,12 @@
 -- and then they say that front.
 use Rattle.std.proofs.Common.{◌≡◌, ℕ, ◌+◌, List, [], ◌∷◌, length, Ok, sym, refl, ap, ◌∙◌, inr, ⊎_elim, arith}
 use Rattle.std.proofs.lemmas.List.{append-nil}
-use Rattle.words.specs.Inverse.{Words}
 use Rattle.paper.specs.Runs.{run}
 use Rattle.paper.proofs.Steps.{through}
 use Rattle.barrier_paper.specs.declared.form.BarrierForm.{BarrierForm}
 use Rattle.barrier_paper.specs.Document.{Said, said, say, nothing_said}
 use Rattle.barrier_paper.specs.Form.{last, longer, by_phase, barrier_step, ended}
-use Rattle.barrier_paper.proofs.Taking.{lefts_from, rights_from, Between, taken, takes, taken_small, between_none, ended_between}
+use Rattle.barrier_paper.proofs.Taking.{lefts_from, rights_from, Between, taken, takes, between_none, ended_between}
 use Rattle.barrier_paper.proofs.States.{Sound, sound_kept}
 use Rattle.barrier_paper.proofs.Fronts.{Front, no_weights, longer_none, front_more}
 use Rattle.barrier_paper.proofs.FrontWords.{front_words, words_more}
@@ -46,7 +45,6 @@ pub record Run (s : BarrierForm) (at : ℕ) (ws : List ℕ) (d : Said) : Type 0 
   pub runs : run barrier_step s at ws ≡ Ok end
   pub ends : Between end.phase
   pub says : said ws ≡ d
-  pub small : Words ws
 
 -- the words of what is peeled
 peeled_words : (counts : List ℕ) (s : BarrierForm) (d : Said) (p : Peeled counts s d) → front_words d ≡ p.word ∷ front_words p.after
@@ -58,12 +56,11 @@ one_more counts s at ws d p r = record {
   runs = rw (takes s.phase s at p.word p.next p.took) r.runs;
   ends = r.ends;
   says = ap (say p.word) r.says ∙ p.same;
-  small = (taken_small s.phase s p.word p.next p.took, r.small);
 }
 
 pub write : (counts : List ℕ) (s : BarrierForm) (at : ℕ) (ws : List ℕ) (d : Said) → Sound s → Front counts s.phase s d → front_words d ≡ ws → Run s at ws d
 write counts s at [] d h f e =
-    ⊎_elim (λ (p : Peeled counts s d). absurd (let n = ap length (sym (peeled_words counts s d p) ∙ e) in omega arith)) (λ (z : (d ≡ nothing_said) × Between s.phase). record { end = s; runs = refl; ends = z.1; says = sym z.0; small = tt }) (peel counts s h d f)
+    ⊎_elim (λ (p : Peeled counts s d). absurd (let n = ap length (sym (peeled_words counts s d p) ∙ e) in omega arith)) (λ (z : (d ≡ nothing_said) × Between s.phase). record { end = s; runs = refl; ends = z.1; says = sym z.0 }) (peel counts s h d f)
 write counts s at (v ∷ ws) d h f e =
     ⊎_elim (λ (p : Peeled counts s d).
     let q = peeled_words counts s d p in

@@ -2,12 +2,12 @@
 use Rattle.std.proofs.Common.{◌≡◌, ℕ, zero, suc, ◌<◌, ◌≤◌, eqb, ◌⊎◌, List, [], ◌∷◌, ◌++◌, length, get_or, sym, refl, ap, ◌∙◌, subst, inl, inr, append_assoc, arith}
 use Rattle.std.specs.List.{AllByRecursion}
 use Rattle.std.proofs.lemmas.List.{append-nil}
-use Rattle.std.proofs.lemmas.Bool.{cond-true, cond-false, or_left, or_right, eq-eqb, ne_eqb}
+use Rattle.std.proofs.lemmas.Bool.{cond-true, or_right, eq-eqb, ne_eqb}
 use Rattle.words.specs.Words.{kind}
 use Rattle.barrier_paper.specs.Document.{joined}
 use Rattle.barrier_paper.specs.Windows.{from_nth, before, part, count_kind}
-use Rattle.barrier_paper.proofs.Seeking.{seek_pass, seek_count, seek_found, before_goes}
-use Rattle.barrier_paper.proofs.WordKinds.{Kinds}
+use Rattle.barrier_paper.proofs.Seeking.{seek_pass, seek_count, seek_found}
+use Rattle.barrier_paper.proofs.WordParts.{Kinds}
 
 -- no kind between the two is k
 abbrev pub Apart : ℕ → ℕ → ℕ → Type 0
@@ -22,14 +22,13 @@ skip k n low high (x ∷ xs) ys h other = seek_pass k n x (xs ++ ys) (other (kin
 pub go_on : (k low high : ℕ) (xs ys : List ℕ) → Kinds low high xs → Apart low high k → Apart low high 10 → before k (xs ++ ys) ≡ xs ++ before k ys
 go_on k low high [] ys h other step = refl
 go_on k low high (x ∷ xs) ys h other step =
-    before_goes k x (xs ++ ys) (other (kind x) h.0.0 h.0.1) (step (kind x) h.0.0 h.0.1)
-    ∙ ap (λ ws. x ∷ ws) (go_on k low high xs ys h.1 other step)
+    rw (ne_eqb (kind x) k (other (kind x) h.0.0 h.0.1), ne_eqb (kind x) 10 (step (kind x) h.0.0 h.0.1)) (ap (λ ws. x ∷ ws) (go_on k low high xs ys h.1 other step))
 
 -- counting passes them too
 pub count_none : (k low high : ℕ) (xs ys : List ℕ) → Kinds low high xs → Apart low high k → count_kind k (xs ++ ys) ≡ count_kind k ys
 count_none k low high [] ys h other = refl
 count_none k low high (x ∷ xs) ys h other =
-    cond-false (eqb (kind x) k) _ _ (ne_eqb (kind x) k (other (kind x) h.0.0 h.0.1)) ∙ count_none k low high xs ys h.1 other
+    rw (ne_eqb (kind x) k (other (kind x) h.0.0 h.0.1)) (count_none k low high xs ys h.1 other)
 
 -- a part ends here: there are no more words, or the next is of the kind or a step
 abbrev pub Stops : ℕ → List ℕ → Type 0
@@ -38,7 +37,7 @@ Stops k (w ∷ ws) = (kind w ≡ k) ⊎ (kind w ≡ 10)
 
 pub stop : (k : ℕ) (ws : List ℕ) → Stops k ws → before k ws ≡ []
 stop k [] h = refl
-stop k (w ∷ ws) (inl e) = cond-true _ _ _ (or_left (eqb (kind w) k) (eqb (kind w) 10) (eq-eqb (kind w) k e))
+stop k (w ∷ ws) (inl e) = rw (eq-eqb (kind w) k e)
 stop k (w ∷ ws) (inr e) = cond-true _ _ _ (or_right (eqb (kind w) k) (eqb (kind w) 10) (eq-eqb (kind w) 10 e))
 
 -- a block of kind k begins with a word of that kind, and then come words of higher kinds, but no step

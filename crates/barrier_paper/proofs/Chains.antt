@@ -1,11 +1,12 @@
 -- What the words of a paper give in a chain of iterators.
-use Rattle.std.proofs.Common.{◌≡◌, ℕ, zero, suc, ◌+◌, ◌-◌, ◌*◌, ◌^◌, ◌<◌, ◌≤◌, Bool, true, false, cond, ◌&&◌, ◌||◌, not, eqb, List, [], ◌∷◌, filter, length, take, drop, Some, None, Option, slice_get, sym, refl, ap, ◌∙◌, ⊎_elim, one-add, zero-add, add-zero, arith}
+use Rattle.std.proofs.Common.{◌≡◌, ℕ, zero, suc, ◌+◌, ◌-◌, ◌*◌, ◌/◌, ◌^◌, ◌<◌, ◌≤◌, Bool, true, false, cond, ◌||◌, not, eqb, ltb, List, [], ◌∷◌, filter, length, take, drop, Some, None, Option, slice_get, sym, refl, ap, ◌∙◌, ⊎_elim, one-add, zero-add, add-zero, arith}
 use Rattle.std.specs.Iterator.{YieldsFirst}
-use Rattle.std.specs.List.{prefix_len}
+use Rattle.std.specs.List.{position_or_len}
+use Rattle.std.specs.Option.{unwrap_or}
 use Rattle.std.proofs.lemmas.Iterator.{YieldsList}
 use Rattle.std.proofs.lemmas.Iterator.Consumers.{YieldsList-from_first}
 use Rattle.std.proofs.lemmas.List.{take_rest}
-use Rattle.std.proofs.lemmas.Bool.{cases_eq, eq-eqb, ne_eqb}
+use Rattle.std.proofs.lemmas.Bool.{cases_eq, cond_both, eq-eqb, ne_eqb, ltb-false}
 use Rattle.words.specs.declared.word.Word.{Word}
 use Rattle.words.specs.declared.reader.Reader.{Reader}
 use Rattle.words.specs.Words.{words, kind}
@@ -14,7 +15,7 @@ use Rattle.words.specs.Placed.{placed}
 use Rattle.words.proofs.Placing.{all_to_come}
 use Rattle.words.proofs.Laws.{length_words, words_drop}
 use Rattle.barrier_paper.specs.Windows.{from_nth, before, count_kind}
-use Rattle.barrier_paper.proofs.Seeking.{seek_pass, seek_count, seek_found}
+use Rattle.barrier_paper.proofs.Seeking.{seek_pass, seek_count, seek_found, before_le}
 
 -- a reader that stands at the first word gives all
 pub all_given : (r : Reader) (bs : List ℕ) → r.at ≡ 0 → r.bytes.now ≡ bs → YieldsList (YieldsFirst to_come) (λ w. w) r (placed 0 (words bs))
@@ -96,20 +97,24 @@ none_found k (suc n) at (v ∷ ws) e =
     (λ (ne : kind v ≡ k → ⊥). seek_pass k (suc n) v ws ne ∙ none_found k (suc n) (at + 1) ws (rw (ne_eqb (kind v) k ne) at e))
     (cases_eq (kind v) k)
 
--- the words before the first that ends a part
-abbrev pub goes_on : ℕ → Word → Bool
-goes_on k w = not (eqb (kind w.bits) k) && not (eqb (kind w.bits) 10)
+-- a word that ends a part of kind k, and how many come before the first
+abbrev pub ends : ℕ → Word → Bool
+ends k w = eqb (kind w.bits) k || eqb (kind w.bits) 10
 
-pub before_placed : (k at : ℕ) (ws : List ℕ) → length (take (prefix_len (goes_on k) (placed at ws)) (placed at ws)) ≡ length (before k ws)
+pub before_placed : (k at : ℕ) (ws : List ℕ) → position_or_len (ends k) (placed at ws) ≡ length (before k ws)
 before_placed k at [] = refl
 before_placed k at (w ∷ ws) =
-    let x : Word = record { place = at; bits = w } in
-    let rest = placed (at + 1) ws in
-    let Same : Bool → Bool → Type 0 = λ a b. length (take (cond (not a && not b) (1 + prefix_len (goes_on k) rest) 0) (x ∷ rest)) ≡ length (cond (a || b) [] (w ∷ before k ws)) in
-    elim (eqb (kind w) k) as (λ a. Same a (eqb (kind w) 10)) [
+    let more = before_placed k (at + 1) ws in
+    elim (eqb (kind w) k || eqb (kind w) 10) as (λ b. cond (not b) (1 + position_or_len (ends k) (placed (at + 1) ws)) 0 ≡ length (cond b [] (w ∷ before k ws))) [
       | true ↦ refl
-      | false ↦ elim (eqb (kind w) 10) as (λ b. Same false b) [
-        | true ↦ refl
-        | false ↦ rw one-add (ap suc (before_placed k (at + 1) ws))
-      ]
+      | false ↦ rw one-add (ap suc more)
     ]
+
+-- the place of that word, or the number of all where there is none
+pub place_or_end : (k : ℕ) (bs : List ℕ) (r : Option ℕ) → let ws = placed 0 (words bs) in let i = position_or_len (ends k) ws in r ≡ cond (ltb i (length ws)) (Some i) None → unwrap_or r (length bs / 4) ≡ length (before k (words bs))
+place_or_end k bs r e =
+    let ws = words bs in
+    let i = length (before k ws) in
+    let n = before_le k ws in
+    rw (rw (before_placed k 0 ws, length_placed 0 ws, length_words bs) at e)
+    (cond_both (ltb i (length bs / 4)) (Some i) None (λ o. unwrap_or o (length bs / 4) ≡ i) (λ _. refl) (λ f. omega (arith, ltb-false i (length bs / 4) f, length_words bs)))

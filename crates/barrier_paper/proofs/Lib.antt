@@ -6,10 +6,9 @@ pub mod FrontWords
 pub mod Peeling
 pub mod BarrierRuns
 pub mod BarrierExact
-pub mod Saying
+pub mod Counting
 pub mod Seeking
 pub mod Summing
-pub mod WordKinds
 pub mod Blocks
 pub mod Parts
 pub mod Named

@@ -1,9 +1,9 @@
 -- The parts of a paper that is the writing of a document are the cases, the lines and the steps of that document.
-use Rattle.std.proofs.Common.{◌≡◌, ℕ, zero, suc, ◌*◌, ◌^◌, ◌<◌, ◌≤◌, false, cond, eqb, List, [], ◌∷◌, ◌++◌, map, length, get_or, ℤ, pos, ◌+ℤ◌, sym, refl, ap, ◌∙◌, inl, inr, ⊎_elim, arith}
+use Rattle.std.proofs.Common.{◌≡◌, ℕ, zero, suc, ◌*◌, ◌^◌, ◌<◌, ◌≤◌, true, false, cond, eqb, List, [], ◌∷◌, ◌++◌, map, length, get_or, ℤ, pos, ◌+ℤ◌, sym, refl, ap, ◌∙◌, inl, inr, ⊎_elim, arith}
 use Rattle.std.specs.List.{AllByRecursion}
 use Rattle.std.proofs.lemmas.List.{append-nil, get_or-map, get_or_past, length-map}
 use Rattle.std.proofs.ByRecursion.{All-get_or}
-use Rattle.std.proofs.lemmas.Bool.{cond-true, cond-false, cond_both, eq-eqb, ne_eqb, cases_lt}
+use Rattle.std.proofs.lemmas.Bool.{cond_both, ne_eqb, cases_lt}
 use Rattle.std.proofs.lemmas.Int.{ints}
 use Rattle.words.specs.Words.{words, kind}
 use Rattle.words.proofs.Inverses.{words_of_bytes}
@@ -13,11 +13,10 @@ use Rattle.lines.specs.OfLine.{line_meant}
 use Rattle.lines.specs.declared.line.LineWeights.{LineWeights}
 use Rattle.barrier_paper.specs.Document.{Weight, LineText, CaseText, BarrierDocument, signed, weight_of, line_of, barrier_of, WeightFits, LineFits, CaseFits, StepFits, BarrierFormed, lines_in, weight_word, line_words, joined, case_words, step_words, barrier_words, barrier_paper, weight_said}
 use Rattle.barrier_paper.specs.Windows.{from_nth, part, count_kind, case_part, line_part, steps_part, before_steps, word_weight, part_weight, part_strict, part_line, line_said}
-use Rattle.barrier_paper.proofs.Seeking.{before_le, seek_found}
+use Rattle.barrier_paper.proofs.Seeking.{before_le, seek_pass, seek_found}
 use Rattle.barrier_paper.proofs.Summing.{same_line, said_short}
-use Rattle.barrier_paper.proofs.WordParts.{line_head, line_good, weight_kind, weight_says}
-use Rattle.barrier_paper.proofs.WordKinds.{line_kind, weights_of_line, lines_of_case, cases_kinds, step_says, steps_kinds, words_small}
-use Rattle.barrier_paper.proofs.Blocks.{Blocks, Stops, skip, go_on, stop, nth_block, past_blocks, count_none, count_blocks}
+use Rattle.barrier_paper.proofs.WordParts.{line_head, line_good, weight_kind, weight_says, weights_of_line, lines_of_case, cases_kinds, step_says, steps_kinds, words_small}
+use Rattle.barrier_paper.proofs.Blocks.{Blocks, Stops, skip, go_on, stop, nth_block, past_blocks, count_blocks}
 
 -- ---- sums of weight words
 
@@ -31,87 +30,53 @@ append_weight k (x ∷ xs) ys r = ap (λ z. word_weight k x r +ℤ z) (append_we
     regroup : (a b c : ℤ) → a +ℤ (b +ℤ c) ≡ (a +ℤ b) +ℤ c
     regroup a b c = omega (arith, ints)
 
--- a word of another kind gives nothing
-other_weight : (k w r : ℕ) → (kind w ≡ k → ⊥) → word_weight k w r ≡ pos 0
-other_weight k w r ne = cond-false (eqb (kind w) k) _ _ (ne_eqb (kind w) k ne)
-
 module _ (tanks : ℕ) where
-  -- weights written as words of a kind are the weights of that kind
-  own_weights : (k : ℕ) (ws : List Weight) (r : ℕ) → AllByRecursion (WeightFits tanks) ws → part_weight k (map (weight_word k) ws) r ≡ weight_of ws r
-  own_weights k [] r h = refl
-  own_weights k (w ∷ ws) r h =
-      let is = cond-true (eqb (kind (weight_word k w)) k) (cond (eqb (weight_said (weight_word k w)).tank r) (signed (weight_said (weight_word k w))) (pos 0)) (pos 0) (eq-eqb _ k (weight_kind tanks k w h.0)) in
-      let says = ap (λ (x : Weight). cond (eqb x.tank r) (signed x) (pos 0)) (weight_says tanks k w h.0) in
-      let more = own_weights k ws r h.1 in
-      ap (λ z. z +ℤ part_weight k (map (weight_word k) ws) r) (is ∙ says) ∙ ap (λ z. cond (eqb w.tank r) (signed w) (pos 0) +ℤ z) more
-
-  -- and no weights of another
-  other_weights : (k j : ℕ) (ws : List Weight) (r : ℕ) → (k ≡ j → ⊥) → AllByRecursion (WeightFits tanks) ws → part_weight j (map (weight_word k) ws) r ≡ pos 0
-  other_weights k j [] r ne h = refl
-  other_weights k j (w ∷ ws) r ne h =
-      none (word_weight j (weight_word k w) r) (part_weight j (map (weight_word k) ws) r) (other_weight j (weight_word k w) r (λ e. ne (sym (weight_kind tanks k w h.0) ∙ e))) (other_weights k j ws r ne h.1)
-    where
-      none : (a b : ℤ) → a ≡ pos 0 → b ≡ pos 0 → a +ℤ b ≡ pos 0
-      none a b p q = omega (arith, ints)
+  -- weights written as words of a kind are the weights of that kind, and no weights of another
+  weights_given : (k j : ℕ) (ws : List Weight) (r : ℕ) → AllByRecursion (WeightFits tanks) ws → part_weight k (map (weight_word j) ws) r ≡ cond (eqb j k) (weight_of ws r) (pos 0)
+  weights_given k j [] r h = elim (eqb j k) as (λ b. pos 0 ≡ cond b (pos 0) (pos 0)) [ true ↦ refl | false ↦ refl ]
+  weights_given k j (w ∷ ws) r h =
+      let one : word_weight k (weight_word j w) r ≡ cond (eqb j k) (cond (eqb w.tank r) (signed w) (pos 0)) (pos 0) =
+      ap (λ m. cond (eqb m k) (cond (eqb (weight_said (weight_word j w)).tank r) (signed (weight_said (weight_word j w))) (pos 0)) (pos 0)) (weight_kind tanks j w h.0)
+      ∙ ap (λ (x : Weight). cond (eqb j k) (cond (eqb x.tank r) (signed x) (pos 0)) (pos 0)) (weight_says tanks j w h.0) in
+      rw (one, weights_given k j ws r h.1)
+      (elim (eqb j k) as (λ b. cond b (cond (eqb w.tank r) (signed w) (pos 0)) (pos 0) +ℤ cond b (weight_of ws r) (pos 0) ≡ cond b (cond (eqb w.tank r) (signed w) (pos 0) +ℤ weight_of ws r) (pos 0)) [ true ↦ refl | false ↦ refl ])
 
   -- ---- lines
 
-  pub left_weights : (t : LineText) → LineFits tanks t → (r : ℕ) → part_weight 8 (line_words t) r ≡ weight_of t.lefts r
-  left_weights t h r =
-      let head = line_head t.strict in
-      let lefts = map (weight_word 8) t.lefts in
-      let rights = map (weight_word 9) t.rights in
-      sums (word_weight 8 head r) (part_weight 8 (lefts ++ rights) r) (part_weight 8 lefts r) (part_weight 8 rights r) (weight_of t.lefts r)
-      (other_weight 8 head r (λ e. omega (arith, line_kind t.strict)))
-      (append_weight 8 lefts rights r)
-      (own_weights 8 t.lefts r h.lefts_fit)
-      (other_weights 9 8 t.rights r (λ e. omega arith) h.rights_fit)
-    where
-      sums : (a s x y v : ℤ) → a ≡ pos 0 → s ≡ x +ℤ y → x ≡ v → y ≡ pos 0 → a +ℤ s ≡ v
-      sums a s x y v p q m n = omega (arith, ints)
-
-  pub right_weights : (t : LineText) → LineFits tanks t → (r : ℕ) → part_weight 9 (line_words t) r ≡ weight_of t.rights r
-  right_weights t h r =
-      let head = line_head t.strict in
-      let lefts = map (weight_word 8) t.lefts in
-      let rights = map (weight_word 9) t.rights in
-      sums (word_weight 9 head r) (part_weight 9 (lefts ++ rights) r) (part_weight 9 lefts r) (part_weight 9 rights r) (weight_of t.rights r)
-      (other_weight 9 head r (λ e. omega (arith, line_kind t.strict)))
-      (append_weight 9 lefts rights r)
-      (other_weights 8 9 t.lefts r (λ e. omega arith) h.lefts_fit)
-      (own_weights 9 t.rights r h.rights_fit)
-    where
-      sums : (a s x y v : ℤ) → a ≡ pos 0 → s ≡ x +ℤ y → x ≡ pos 0 → y ≡ v → a +ℤ s ≡ v
-      sums a s x y v p q m n = omega (arith, ints)
+  line_weights : (k : ℕ) (t : LineText) → LineFits tanks t → (7 ≡ k → ⊥) → (r : ℕ) → part_weight k (line_words t) r ≡ cond (eqb 8 k) (weight_of t.lefts r) (pos 0) +ℤ cond (eqb 9 k) (weight_of t.rights r) (pos 0)
+  line_weights k t h ne r =
+      let head : word_weight k (line_head t.strict) r ≡ pos 0 = rw ((line_good t.strict).0.kind_is, ne_eqb 7 k ne) in
+      rw (head, append_weight k (map (weight_word 8) t.lefts) (map (weight_word 9) t.rights) r, weights_given k 8 t.lefts r h.lefts_fit, weights_given k 9 t.rights r h.rights_fit)
+      (omega (arith, ints))
 
   pub strict_bit : (t : LineText) → part_strict (line_words t) ≡ t.strict
   strict_bit t = (line_good t.strict).1
 
   -- the words of a line say the line
   pub line_says : (t : LineText) → LineFits tanks t → part_line (line_words t) ≡ line_of t
-  line_says t h = same_line _ _ (left_weights t h) (right_weights t h) (strict_bit t)
+  line_says t h = same_line _ _ (λ r. line_weights 8 t h (λ e. omega arith) r ∙ omega (arith, ints)) (λ r. line_weights 9 t h (λ e. omega arith) r ∙ omega (arith, ints)) (strict_bit t)
 
   line_blocks : Blocks 7 9 line_words (LineFits tanks)
   line_blocks = record {
     head = λ t. line_head t.strict;
     tail = λ t. map (weight_word 8) t.lefts ++ map (weight_word 9) t.rights;
     made = λ t. refl;
-    head_kind = λ t _. line_kind t.strict;
+    head_kind = λ t _. (line_good t.strict).0.kind_is;
     tail_kinds = weights_of_line tanks;
     no_step = λ j a b e. omega arith;
   }
 
+  -- a search for a line passes the case's word
+  past_head : (c : CaseText) (l : ℕ) → from_nth 7 l (case_words c) ≡ from_nth 7 l (joined line_words c ++ [])
+  past_head c l = seek_pass 7 l (6 * 2 ^ 28) (joined line_words c) (λ e. omega arith) ∙ ap (from_nth 7 l) (sym (append-nil (joined line_words c)))
+
   -- line l of a case
   pub line_of_case : (c : CaseText) → CaseFits tanks c → (l : ℕ) (z : LineText) → l < length c → line_part l (case_words c) ≡ line_words (get_or c l z)
-  line_of_case c h l z inside =
-      ap (part 7) (skip 7 l 6 6 (6 * 2 ^ 28 ∷ []) (joined line_words c) ((omega arith, omega arith), tt) (λ j a b e. omega arith) ∙ ap (from_nth 7 l) (sym (append-nil (joined line_words c))))
-      ∙ nth_block line_blocks c [] l z h.lines_fit tt inside
+  line_of_case c h l z inside = ap (part 7) (past_head c l) ∙ nth_block line_blocks c [] l z h.lines_fit tt inside
 
   -- there is no line beyond the last
   pub past_lines : (c : CaseText) → CaseFits tanks c → (l : ℕ) → length c ≤ l → line_part l (case_words c) ≡ []
-  past_lines c h l past =
-      ap (part 7) (skip 7 l 6 6 (6 * 2 ^ 28 ∷ []) (joined line_words c) ((omega arith, omega arith), tt) (λ j a b e. omega arith) ∙ ap (from_nth 7 l) (sym (append-nil (joined line_words c))))
-      ∙ ap (part 7) (past_blocks line_blocks c 0 0 [] l h.lines_fit tt (λ j a b e. omega arith) past)
+  past_lines c h l past = ap (part 7) (past_head c l ∙ past_blocks line_blocks c 0 0 [] l h.lines_fit tt (λ j a b e. omega arith) past)
 
   -- what the words of a case say of line l, where there is one and where there is none
   pub line_of_case_says : (c : CaseText) → CaseFits tanks c → (l : ℕ) → part_line (line_part l (case_words c)) ≡ line_at (map line_of c) l
@@ -130,7 +95,7 @@ module _ (tanks : ℕ) where
       no_text = record { strict = false; lefts = []; rights = [] }
 
   pub lines_counted : (c : CaseText) → CaseFits tanks c → count_kind 7 (case_words c) ≡ length c
-  lines_counted c h = count_none 7 6 6 (6 * 2 ^ 28 ∷ []) (joined line_words c) ((omega arith, omega arith), tt) (λ j a b e. omega arith) ∙ count_blocks line_blocks c h.lines_fit
+  lines_counted c h = count_blocks line_blocks c h.lines_fit
 
   -- ---- cases
 

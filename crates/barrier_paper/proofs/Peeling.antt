@@ -1,12 +1,11 @@
 -- A well-formed front says nothing, or it is one word that is taken, before a well-formed front.
-use Rattle.std.proofs.Common.{◌≡◌, ℕ, ◌+◌, ◌*◌, ◌^◌, ◌<◌, ◌≤◌, ◌⊎◌, List, [], ◌∷◌, ◌++◌, map, length, get_or, Some, None, Option, sym, refl, ap, ◌∙◌, inl, inr, ⊎_elim, zero-add, add-one, arith}
-use Rattle.std.specs.List.{AllByRecursion}
+use Rattle.std.proofs.Common.{◌≡◌, ℕ, ◌+◌, ◌*◌, ◌^◌, ◌≤◌, ◌⊎◌, List, [], ◌∷◌, ◌++◌, map, length, get_or, Some, None, Option, sym, refl, ap, ◌∙◌, inl, inr, ⊎_elim, zero-add, add-one, arith}
 use Rattle.std.proofs.lemmas.List.{get_or-set_same, get_or_push, length-set, length_push}
 use Rattle.words.specs.Words.{field}
 use Rattle.barriers.specs.Steps.{Match, Step}
 use Rattle.barrier_paper.specs.declared.form.Phase.TheVariants.{Left, Right}
 use Rattle.barrier_paper.specs.declared.form.BarrierForm.{BarrierForm}
-use Rattle.barrier_paper.specs.Document.{Weight, LineText, CaseText, MatchFits, weight_word, match_word, weight_said, Said, say, nothing_said}
+use Rattle.barrier_paper.specs.Document.{Weight, LineText, CaseText, weight_word, match_word, weight_said, Said, say, nothing_said}
 use Rattle.barrier_paper.specs.Form.{in_phase, after_case, last, longer, after_line, waiting, after_step, after_match}
 use Rattle.barrier_paper.proofs.WordParts.{WeightWord, line_head, step_head, weight_good, weight_says, line_good, case_good, match_good, step_word_says, step_good}
 use Rattle.barrier_paper.proofs.Taking.{InCase, lefts_from, rights_from, pending, Between, Taken, a_case, a_line, a_left, a_right, a_step, a_match, left_in_case, right_in_case, none_in_case, none_between}

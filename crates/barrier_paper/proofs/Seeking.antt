@@ -1,27 +1,19 @@
 -- Steps of a search for a word of a kind.
-use Rattle.std.proofs.Common.{◌≡◌, ℕ, zero, suc, ◌+◌, ◌-◌, ◌*◌, ◌≤◌, true, false, cond, ◌||◌, eqb, ◌⊎◌, List, [], ◌∷◌, ◌++◌, length, take, sym, refl, ap, ◌∙◌, inl, inr, ⊎_elim, one-add, arith, length-take}
-use Rattle.std.proofs.lemmas.Bool.{eq-eqb, ne_eqb, cond-true, cond-false, or_left, or_right, or_from, cases_eq}
+use Rattle.std.proofs.Common.{◌≡◌, ℕ, zero, suc, ◌+◌, ◌*◌, ◌≤◌, true, false, cond, ◌||◌, eqb, List, [], ◌∷◌, ◌++◌, length, take, refl, ap, ◌∙◌, one-add, arith, length-take}
+use Rattle.std.proofs.lemmas.Bool.{eq-eqb, ne_eqb}
 use Rattle.words.specs.Words.{words, kind}
 use Rattle.words.proofs.Laws.{length_words, words_take}
 use Rattle.barrier_paper.specs.Windows.{from_nth, before, part, steps_part, before_steps}
 
 pub seek_pass : (k n w : ℕ) (ws : List ℕ) → (kind w ≡ k → ⊥) → from_nth k n (w ∷ ws) ≡ from_nth k n ws
-seek_pass k zero w ws ne = cond-false (eqb (kind w) k) _ _ (ne_eqb (kind w) k ne)
-seek_pass k (suc n) w ws ne = cond-false (eqb (kind w) k) _ _ (ne_eqb (kind w) k ne)
+seek_pass k zero w ws ne = rw (ne_eqb (kind w) k ne)
+seek_pass k (suc n) w ws ne = rw (ne_eqb (kind w) k ne)
 
 pub seek_count : (k n w : ℕ) (ws : List ℕ) → kind w ≡ k → from_nth k (suc n) (w ∷ ws) ≡ from_nth k n ws
-seek_count k n w ws e = cond-true (eqb (kind w) k) _ _ (eq-eqb (kind w) k e)
+seek_count k n w ws e = rw (eq-eqb (kind w) k e)
 
 pub seek_found : (k w : ℕ) (ws : List ℕ) → kind w ≡ k → from_nth k 0 (w ∷ ws) ≡ w ∷ ws
-seek_found k w ws e = cond-true (eqb (kind w) k) _ _ (eq-eqb (kind w) k e)
-
--- what comes before the end of a part ends at a word of the kind or a step, and goes on at any other
-pub before_ends : (k f w : ℕ) (ws : List ℕ) → f ≡ kind w → (f ≡ k) ⊎ ((f ≡ k → ⊥) × (f ≡ 10)) → before k (w ∷ ws) ≡ []
-before_ends k f w ws e (inl is) = cond-true _ _ _ (or_left (eqb (kind w) k) (eqb (kind w) 10) (eq-eqb (kind w) k (sym e ∙ is)))
-before_ends k f w ws e (inr is) = cond-true _ _ _ (or_right (eqb (kind w) k) (eqb (kind w) 10) (eq-eqb (kind w) 10 (sym e ∙ is.1)))
-
-pub before_goes : (k w : ℕ) (ws : List ℕ) → (kind w ≡ k → ⊥) → (kind w ≡ 10 → ⊥) → before k (w ∷ ws) ≡ w ∷ before k ws
-before_goes k w ws other step = cond-false _ _ _ (or_from (eqb (kind w) k) (eqb (kind w) 10) (ne_eqb (kind w) k other) (ne_eqb (kind w) 10 step))
+seek_found k w ws e = rw (eq-eqb (kind w) k e)
 
 -- what comes before the end of a part is as much of the words as it is long
 pub take_before : (k : ℕ) (ws : List ℕ) → take (length (before k ws)) ws ≡ before k ws
@@ -50,11 +42,7 @@ parted k n w ws bs e l = record {
 pub steps_last : (ws : List ℕ) → before_steps ws ++ steps_part ws ≡ ws
 steps_last [] = refl
 steps_last (w ∷ ws) =
-    ⊎_elim
-    (λ e.
-    ap (λ vs. vs ++ from_nth 10 0 (w ∷ ws)) (before_ends 10 (kind w) w ws refl (inl e))
-    ∙ seek_found 10 w ws e)
-    (λ ne.
-    ap (λ vs. vs ++ from_nth 10 0 (w ∷ ws)) (before_goes 10 w ws ne ne)
-    ∙ (ap (λ vs. w ∷ (before 10 ws ++ vs)) (seek_pass 10 0 w ws ne) ∙ ap (λ vs. w ∷ vs) (steps_last ws)))
-    (cases_eq (kind w) 10)
+    elim (eqb (kind w) 10) as (λ b. cond (b || b) [] (w ∷ before 10 ws) ++ cond b (w ∷ ws) (from_nth 10 0 ws) ≡ w ∷ ws) [
+      | true ↦ refl
+      | false ↦ ap (λ t. w ∷ t) (steps_last ws)
+    ]

@@ -1,5 +1,5 @@
 -- Steps and bounds of the sums of weight words.
-use Rattle.std.proofs.Common.{◌≡◌, ℕ, ◌+◌, ◌*◌, ◌<◌, ◌≤◌, cond, eqb, leb, List, [], ◌∷◌, map, length, get_or, set, replicate, ℤ, pos, ◌+ℤ◌, nat_abs, sym, refl, ap, ◌∙◌, subst, ⊎_elim, arith, w32, to_z, of_z}
+use Rattle.std.proofs.Common.{◌≡◌, ℕ, ◌+◌, ◌*◌, ◌<◌, ◌≤◌, leb, List, [], ◌∷◌, map, length, get_or, set, replicate, ℤ, pos, ◌+ℤ◌, nat_abs, sym, refl, ap, ◌∙◌, subst, ⊎_elim, arith, w32, to_z, of_z}
 use Rattle.std.proofs.lemmas.List.{get_or-set_same, get_or-set_other, get_or-replicate, get_or_past}
 use Rattle.std.proofs.lemmas.Bool.{eq-eqb, ne_eqb, cases_eq, cases_lt, cond-true, cond-false, le-leb, lt-leb}
 use Rattle.std.proofs.lemmas.Bool.Decides.{nat_tests}
@@ -50,13 +50,11 @@ put_other out f r v ne = get_or-set_other out f r v (pos 0) (λ e. ne (sym e)) �
 put_step : (k r w : ℕ) (out : List ℤ) → length out ≡ most_tanks → kind w ≡ k → r < most_tanks →
     get_or (set out (field w 22 6) (get_or out (field w 22 6) (pos 0) +ℤ signed (weight_said w))) r (pos 0) ≡ get_or out r (pos 0) +ℤ word_weight k w r
 put_step k r w out long is h =
-    ⊎_elim
-    (λ e. put_same out (field w 22 6) r (signed (weight_said w)) (omega arith) e ∙ ap (λ z. get_or out r (pos 0) +ℤ z) (sym (of_kind ∙ cond-true (eqb (field w 22 6) r) _ _ (eq-eqb (field w 22 6) r e))))
-    (λ ne. put_other out (field w 22 6) r _ ne ∙ ap (λ z. get_or out r (pos 0) +ℤ z) (sym (of_kind ∙ cond-false (eqb (field w 22 6) r) _ _ (ne_eqb (field w 22 6) r ne))))
-    (cases_eq (field w 22 6) r)
-  where
-    of_kind : word_weight k w r ≡ cond (eqb (field w 22 6) r) (signed (weight_said w)) (pos 0)
-    of_kind = cond-true (eqb (kind w) k) _ _ (eq-eqb (kind w) k is)
+    rw (eq-eqb (kind w) k is)
+    (⊎_elim
+    (λ e. rw (eq-eqb (field w 22 6) r e) (put_same out (field w 22 6) r (signed (weight_said w)) (omega arith) e))
+    (λ ne. rw (ne_eqb (field w 22 6) r ne) (put_other out (field w 22 6) r _ ne))
+    (cases_eq (field w 22 6) r))
 
 -- a sum that fits is what the code computes
 plain : (x s : ℤ) → nat_abs x ≤ 2 * most_weight_sum → nat_abs s ≤ 16383 → to_z w32 (of_z w32 (to_z w32 (of_z w32 x) +ℤ to_z w32 (of_z w32 s))) ≡ x +ℤ s

@@ -1,5 +1,5 @@
 -- Which words the form of a barrier paper takes in each phase, and what they lead to.
-use Rattle.std.proofs.Common.{◌≡◌, ℕ, ◌+◌, ◌^◌, ◌<◌, ◌≤◌, cond, eqb, ◌⊎◌, length, get_or, Some, None, Ok, Err, Option, Result, sym, refl, ap, ◌∙◌, ⊎_elim, arith}
+use Rattle.std.proofs.Common.{◌≡◌, ℕ, ◌+◌, ◌<◌, ◌≤◌, cond, eqb, ◌⊎◌, length, get_or, Some, None, Ok, Err, Option, Result, sym, refl, ap, ◌∙◌, ⊎_elim, arith}
 use Rattle.std.proofs.lemmas.Bool.Decides.{nat_tests}
 use Rattle.words.specs.declared.faults.PaperFault.{PaperFault}
 use Rattle.words.specs.Words.{kind, field}
@@ -231,12 +231,3 @@ between_ended _ n b = refl
 -- the first word of all
 pub first_taken : (s : BarrierForm) (at w : ℕ) (t : BarrierForm) → length s.lines.items < most_cases → by_phase Start s at w ≡ Ok t → CaseWord w × (t ≡ after_case s)
 first_taken s at w t few p = (record { kind_is = grind (arith, nat_tests); plain = grind (arith, nat_tests) }, grind (arith, nat_tests))
-
--- a word that is taken has 32 bits
-pub taken_small : (ph : Phase) (s : BarrierForm) (w : ℕ) (t : BarrierForm) → Taken ph s w t → w < 2 ^ 32
-taken_small ph s w t (a_case i h few e) = omega (arith, h.kind_is)
-taken_small ph s w t (a_line i h few e) = omega (arith, h.kind_is)
-taken_small ph s w t (a_left least i h e) = omega (arith, h.kind_is)
-taken_small ph s w t (a_right least i h e) = omega (arith, h.kind_is)
-taken_small ph s w t (a_step i h e) = omega (arith, h.kind_is)
-taken_small ph s w t (a_match i h e) = omega (arith, h.kind_is)

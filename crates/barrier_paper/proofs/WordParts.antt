@@ -1,12 +1,15 @@
--- The words of barrier papers: what a good word of each kind keeps, that it is the writing of what it says, and that the word of a
--- fitting thing is good and says the thing.
-use Rattle.std.proofs.Common.{◌≡◌, ℕ, ◌+◌, ◌*◌, ◌/◌, ◌^◌, ◌<◌, ◌≤◌, Bool, true, false, cond, eqb, List, sym, refl, ap, ◌∙◌, arith}
+-- The words of barrier papers: what a good word of each kind keeps, that it is the writing of what it says, that the word of a
+-- fitting thing is good and says the thing, and of which kinds the words of a well-formed document are.
+use Rattle.std.proofs.Common.{◌≡◌, ℕ, ◌+◌, ◌*◌, ◌/◌, ◌^◌, ◌<◌, ◌≤◌, Bool, true, false, cond, eqb, List, [], ◌∷◌, ◌++◌, map, length, sym, refl, ap, ◌∙◌, arith}
+use Rattle.std.specs.List.{AllByRecursion}
+use Rattle.std.proofs.ByRecursion.{All-append, All-weaker, All-map, All-get_or}
 use Rattle.std.proofs.lemmas.Bool.Decides.{nat_tests}
 use Rattle.plant.specs.Limits.{most_valves}
 use Rattle.words.specs.Words.{kind, field}
+use Rattle.words.specs.Inverse.{Words}
 use Rattle.barriers.specs.Steps.{Way, forward, backward, Match, Step}
 use Rattle.barrier_paper.specs.Limits.{most_cases, most_lines, most_line_weight}
-use Rattle.barrier_paper.specs.Document.{Weight, WeightFits, MatchFits, way_bit, step_key, weight_word, match_word, weight_said, match_said, step_said}
+use Rattle.barrier_paper.specs.Document.{Weight, LineText, CaseText, BarrierDocument, WeightFits, LineFits, CaseFits, MatchFits, StepFits, BarrierFormed, lines_in, way_bit, step_key, weight_word, line_words, joined, case_words, match_word, step_words, barrier_words, weight_said, match_said, step_said}
 
 pub record CaseWord (w : ℕ) : Type 0 where
   pub kind_is : kind w ≡ 6
@@ -231,3 +234,66 @@ step_written cases valves least w ms h = rw (way_back (field w 27 1) (omega arit
 
 pub key_said : (w : ℕ) (ms : List Match) → step_key (step_said w ms) ≡ field w 17 11
 key_said w ms = rw (way_back (field w 27 1) (omega arith)) (sym (key_apart w))
+
+-- ---- the words of a well-formed document, by their kinds
+
+-- the kinds of all these words are between two
+abbrev pub Kinds : ℕ → ℕ → List ℕ → Type 0
+Kinds low high ws = AllByRecursion (λ w. (low ≤ kind w) × (kind w ≤ high)) ws
+
+wider : (low high low' high' : ℕ) (ws : List ℕ) → low' ≤ low → high ≤ high' → Kinds low high ws → Kinds low' high' ws
+wider low high low' high' ws a b = All-weaker _ _ (λ w (m : (low ≤ kind w) × (kind w ≤ high)). (omega (arith, m.0), omega (arith, m.1))) ws
+
+joined_kinds : {X : Type 0} (Fits : X → Type 0) (f : X → List ℕ) (low high : ℕ) → ((x : X) → Fits x → Kinds low high (f x)) → (xs : List X) → AllByRecursion Fits xs → Kinds low high (joined f xs)
+joined_kinds Fits f low high each [] h = tt
+joined_kinds Fits f low high each (x ∷ xs) h = All-append _ (f x) (joined f xs) (each x h.0) (joined_kinds Fits f low high each xs h.1)
+
+-- the words of a line after its own, of a case after its own, and of all cases
+module _ (tanks : ℕ) where
+  weights_kinds : (k : ℕ) (ws : List Weight) → AllByRecursion (WeightFits tanks) ws → Kinds k k (map (weight_word k) ws)
+  weights_kinds k ws h = All-map _ (weight_word k) ws (All-weaker _ _ (λ w (f : WeightFits tanks w). let e = weight_kind tanks k w f in (omega arith, omega arith)) ws h)
+
+  pub weights_of_line : (t : LineText) → LineFits tanks t → Kinds 8 9 (map (weight_word 8) t.lefts ++ map (weight_word 9) t.rights)
+  weights_of_line t h =
+      All-append _ _ _ (wider 8 8 8 9 _ (omega arith) (omega arith) (weights_kinds 8 t.lefts h.lefts_fit)) (wider 9 9 8 9 _ (omega arith) (omega arith) (weights_kinds 9 t.rights h.rights_fit))
+
+  line_kinds : (t : LineText) → LineFits tanks t → Kinds 7 9 (line_words t)
+  line_kinds t h = let e = (line_good t.strict).0.kind_is in ((omega arith, omega arith), wider 8 9 7 9 _ (omega arith) (omega arith) (weights_of_line t h))
+
+  pub lines_of_case : (c : CaseText) → AllByRecursion (LineFits tanks) c → Kinds 7 9 (joined line_words c)
+  lines_of_case = joined_kinds (LineFits tanks) line_words 7 9 line_kinds
+
+  case_kinds : (c : CaseText) → CaseFits tanks c → Kinds 6 9 (case_words c)
+  case_kinds c h = ((omega arith, omega arith), wider 7 9 6 9 _ (omega arith) (omega arith) (lines_of_case c h.lines_fit))
+
+  pub cases_kinds : (cs : List CaseText) → AllByRecursion (CaseFits tanks) cs → Kinds 6 9 (joined case_words cs)
+  cases_kinds = joined_kinds (CaseFits tanks) case_words 6 9 case_kinds
+
+module _ (valves : ℕ) (cs : List CaseText) (few_cases : length cs ≤ most_cases) where
+  -- a step's word says the step
+  pub step_says : (s : Step) → StepFits valves cs s → StepSays s
+  step_says s h = step_word_says s (omega (arith, h.from_there)) h.valve_small (omega (arith, h.to_there))
+
+module _ (tanks valves : ℕ) (cs : List CaseText) (few_cases : length cs ≤ most_cases) (cases_fit : AllByRecursion (CaseFits tanks) cs) where
+  match_fine : (i : ℕ) → i < length cs → (m : Match) → MatchFits (lines_in cs i) m → MatchWord (lines_in cs i) (match_word m) × (match_said (match_word m) ≡ m)
+  match_fine i h m f = match_good (lines_in cs i) m (All-get_or (CaseFits tanks) cs i [] h cases_fit).few_lines f
+
+  -- and a match's word says the match
+  pub match_says : (i : ℕ) → i < length cs → (m : Match) → MatchFits (lines_in cs i) m → match_said (match_word m) ≡ m
+  match_says i h m f = (match_fine i h m f).1
+
+  pub matches_kinds : (s : Step) → StepFits valves cs s → Kinds 11 11 (map match_word s.matches)
+  matches_kinds s h =
+      All-map _ match_word s.matches (All-weaker _ _ (λ m (f : MatchFits (lines_in cs s.from) m). let k = (match_fine s.from h.from_there m f).0.kind_is in (omega arith, omega arith)) s.matches h.matches_fit)
+
+  step_kinds : (s : Step) → StepFits valves cs s → Kinds 10 11 (step_words s)
+  step_kinds s h = let e = (step_says valves cs few_cases s h).kind_is in ((omega arith, omega arith), wider 11 11 10 11 _ (omega arith) (omega arith) (matches_kinds s h))
+
+  pub steps_kinds : (ss : List Step) → AllByRecursion (StepFits valves cs) ss → Kinds 10 11 (joined step_words ss)
+  steps_kinds = joined_kinds (StepFits valves cs) step_words 10 11 step_kinds
+
+-- so each word of a well-formed document fits 32 bits
+pub words_small : (tanks valves : ℕ) (d : BarrierDocument) → BarrierFormed tanks valves d → Words (barrier_words d)
+words_small tanks valves d f =
+    All-weaker _ _ (λ w (m : (6 ≤ kind w) × (kind w ≤ 11)). omega (arith, m.1)) _
+    (All-append _ _ _ (wider 6 9 6 11 _ (omega arith) (omega arith) (cases_kinds tanks d.cases f.cases_fit)) (wider 10 11 6 11 _ (omega arith) (omega arith) (steps_kinds tanks valves d.cases f.few_cases f.cases_fit d.steps f.steps_fit)))

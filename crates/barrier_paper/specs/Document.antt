@@ -161,12 +161,12 @@ nothing_said = record { lefts = []; rights = []; lines = []; cases = []; matches
 -- one more word before what is said so far
 abbrev pub say : ℕ → Said → Said
 say w d =
-    cond (kind w == 6) (record { lefts = []; rights = []; lines = []; cases = d.lines ∷ d.cases; matches = d.matches; steps = d.steps }) (
-    cond (kind w == 7) (record { lefts = []; rights = []; lines = record { strict = (field w 0 1 == 1); lefts = d.lefts; rights = d.rights } ∷ d.lines; cases = d.cases; matches = d.matches; steps = d.steps }) (
-    cond (kind w == 8) (record { lefts = weight_said w ∷ d.lefts; rights = d.rights; lines = d.lines; cases = d.cases; matches = d.matches; steps = d.steps }) (
-    cond (kind w == 9) (record { lefts = d.lefts; rights = weight_said w ∷ d.rights; lines = d.lines; cases = d.cases; matches = d.matches; steps = d.steps }) (
-    cond (kind w == 10) (record { lefts = d.lefts; rights = d.rights; lines = d.lines; cases = d.cases; matches = []; steps = step_said w d.matches ∷ d.steps }) (
-    cond (kind w == 11) (record { lefts = d.lefts; rights = d.rights; lines = d.lines; cases = d.cases; matches = match_said w ∷ d.matches; steps = d.steps })
+    cond (kind w == 6) (record d { lefts = []; rights = []; lines = []; cases = d.lines ∷ d.cases }) (
+    cond (kind w == 7) (record d { lefts = []; rights = []; lines = record { strict = (field w 0 1 == 1); lefts = d.lefts; rights = d.rights } ∷ d.lines }) (
+    cond (kind w == 8) (record d { lefts = weight_said w ∷ d.lefts }) (
+    cond (kind w == 9) (record d { rights = weight_said w ∷ d.rights }) (
+    cond (kind w == 10) (record d { matches = []; steps = step_said w d.matches ∷ d.steps }) (
+    cond (kind w == 11) (record d { matches = match_said w ∷ d.matches })
     d)))))
 
 abbrev pub said : List ℕ → Said

@@ -18,11 +18,11 @@ start tanks valves = record { counts = record { tanks = tanks; valves = valves }
 
 -- the same form in another phase
 abbrev pub in_phase : Phase → BarrierForm → BarrierForm
-in_phase phase s = record { counts = s.counts; phase = phase; lines = s.lines }
+in_phase phase s = record s { phase = phase }
 
 -- one more case, which has no line yet
 abbrev pub after_case : BarrierForm → BarrierForm
-after_case s = record { counts = s.counts; phase = Case; lines = record { items = s.lines.items ++ 0 ∷ [] } }
+after_case s = record s { phase = Case; lines = record { items = s.lines.items ++ 0 ∷ [] } }
 
 abbrev pub case : BarrierForm → ℕ → ℕ → Result BarrierForm PaperFault
 case s at w =
@@ -38,7 +38,7 @@ abbrev pub longer : List ℕ → ℕ → List ℕ
 longer table n = slice_set table (last table) (slice_index table (last table) + n)
 
 abbrev pub after_line : BarrierForm → BarrierForm
-after_line s = record { counts = s.counts; phase = Left 0; lines = record { items = longer s.lines.items 1 } }
+after_line s = record s { phase = Left 0; lines = record { items = longer s.lines.items 1 } }
 
 abbrev pub line : BarrierForm → ℕ → ℕ → Result BarrierForm PaperFault
 line s at w =
@@ -74,7 +74,7 @@ step least s at w =
     Ok (in_phase (waiting (after_step s w)) s))))
 
 abbrev pub after_match : Pending → Pending
-after_match p = record { matches = p.matches - 1; lines = p.lines; least = p.least }
+after_match p = record p { matches = p.matches - 1 }
 
 abbrev pub match : Pending → BarrierForm → ℕ → ℕ → Result BarrierForm PaperFault
 match p s at w =
@@ -110,12 +110,8 @@ barrier_step s at w = by_phase s.phase s at w
 
 -- at the end no match may be due
 abbrev pub ended : Phase → ℕ → Result (Unit {0}) PaperFault
-ended Start at = Ok tt
-ended Case at = Ok tt
-ended (Left least) at = Ok tt
-ended (Right least) at = Ok tt
-ended (Steps least) at = Ok tt
 ended (Matches p) at = Err (Due at)
+ended _ at = Ok tt
 
 -- on a plant with so many tanks and valves
 abbrev pub barrier_form : ℕ → ℕ → List ℕ → Result BarrierForm PaperFault

@@ -17,23 +17,24 @@ pub struct Pending {
     pub least: u32,
 }
 
-// Where the reading stands. `least` is the least that the next tank, or the next step's direction, case and valve, may be.
+// Where the reading stands. The number is the least that the next tank, or the next step's direction, case and valve, may be.
 #[derive(Clone, Copy, Debug, PartialEq)]
 pub enum Phase {
     Start,
     Case,
-    Left { least: u32 },
-    Right { least: u32 },
-    Steps { least: u32 },
+    Left(u32),
+    Right(u32),
+    Steps(u32),
     Matches(Pending),
 }
 
 impl Pending {
+    // The phase while these are to come, or after them.
     fn phase(self) -> Phase
         ensures { result ≡ spec.waiting self }
     {
         if self.matches == 0 {
-            Phase::Steps { least: self.least }
+            Phase::Steps(self.least)
         } else {
             Phase::Matches(self)
         }
@@ -73,6 +74,7 @@ impl BarrierForm {
         BarrierForm { phase, ..self }
     }
 
+    // One more case, which has no line yet.
     fn case(mut self, word: Word) -> Result<BarrierForm, PaperFault>
         ensures { result ≡ spec.case self word.place word.bits }
     {
@@ -85,6 +87,7 @@ impl BarrierForm {
         Ok(self.in_phase(Phase::Case))
     }
 
+    // One more line of the last case.
     fn line(mut self, word: Word) -> Result<BarrierForm, PaperFault>
         ensures { result ≡ spec.line self word.place word.bits }
     {
@@ -97,7 +100,7 @@ impl BarrierForm {
             }
             *count += 1;
         }
-        Ok(self.in_phase(Phase::Left { least: 0 }))
+        Ok(self.in_phase(Phase::Left(0)))
     }
 
     // What refuses a weight word.
@@ -187,22 +190,14 @@ impl Form for BarrierForm {
     fn advance(self, word: Word) -> Result<BarrierForm, PaperFault> {
         let kind = word.kind().ok_or(PaperFault::Kind(word.place))?;
         match (self.phase, kind) {
-            (Phase::Start | Phase::Case | Phase::Left { .. } | Phase::Right { .. }, Kind::Case) =>
+            (Phase::Start | Phase::Case | Phase::Left(_) | Phase::Right(_), Kind::Case) =>
                 self.case(word),
-            (Phase::Case | Phase::Left { .. } | Phase::Right { .. }, Kind::Line) => self.line(word),
-            (Phase::Left { least }, Kind::Left) => {
-                self.weight(|least| Phase::Left { least }, least, word)
-            }
-            (Phase::Left { .. }, Kind::Right) => {
-                self.weight(|least| Phase::Right { least }, 0, word)
-            }
-            (Phase::Right { least }, Kind::Right) => {
-                self.weight(|least| Phase::Right { least }, least, word)
-            }
-            (Phase::Case | Phase::Left { .. } | Phase::Right { .. }, Kind::Step) => {
-                self.step(0, word)
-            }
-            (Phase::Steps { least }, Kind::Step) => self.step(least, word),
+            (Phase::Case | Phase::Left(_) | Phase::Right(_), Kind::Line) => self.line(word),
+            (Phase::Left(least), Kind::Left) => self.weight(Phase::Left, least, word),
+            (Phase::Left(_), Kind::Right) => self.weight(Phase::Right, 0, word),
+            (Phase::Right(least), Kind::Right) => self.weight(Phase::Right, least, word),
+            (Phase::Case | Phase::Left(_) | Phase::Right(_), Kind::Step) => self.step(0, word),
+            (Phase::Steps(least), Kind::Step) => self.step(least, word),
             (Phase::Matches(pending), Kind::Match) => self.take_match(pending, word),
             _ => Err(PaperFault::Kind(word.place)),
         }

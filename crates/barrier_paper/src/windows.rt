@@ -33,8 +33,8 @@ pub(crate) fn count_before(bytes: &[u8], kind: Kind) -> usize
     ensures { result ≡ length (spec.before (number_of kind) (words bytes.now)) }
 {
     Reader::new(bytes)
-        .take_while(|word| word.kind() != Some(kind) && word.kind() != Some(Kind::Step))
-        .count()
+        .position(|word| word.kind() == Some(kind) || word.kind() == Some(Kind::Step))
+        .unwrap_or(bytes.len() / 4)
 }
 
 // The first word, and what follows it up to the next word of the kind or a step.

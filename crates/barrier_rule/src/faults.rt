@@ -15,11 +15,11 @@ pub enum BarrierFault {
     BadMatch(usize),
 }
 
-impl BarrierFault {
-    pub fn refusal(self) -> Refusal
-        ensures { result ≡ of_barrier self }
-    {
-        let (number, place) = match self {
+impl From<BarrierFault> for Refusal {
+    ghost from_gives = { λ x y. y ≡ of_barrier x };
+
+    fn from(fault: BarrierFault) -> Refusal {
+        let (number, place) = match fault {
             BarrierFault::FailsSource => (16, 0),
             BarrierFault::FailsTarget => (17, 0),
             BarrierFault::HoldsAcross => (18, 0),

@@ -1,4 +1,4 @@
-use Rattle.std.proofs.Common.{◌≡◌, ◌<◌, true, false, eqb, length, get_or, pos, ◌+ℤ◌, sym, arith, rules}
+use Rattle.std.proofs.Common.{◌≡◌, ◌<◌, true, false, eqb, arith, rules}
 use Rattle.std.proofs.lemmas.Bool.{eqb-true}
 use Rattle.std.proofs.lemmas.Int.{ints}
 use Rattle.plant.specs.Limits.{most_tanks}

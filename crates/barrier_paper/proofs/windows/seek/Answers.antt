@@ -5,7 +5,6 @@ use Rattle.words.specs.declared.word.Word.{Word}
 use Rattle.words.specs.Words.{words}
 use Rattle.words.specs.Kinds.{number_of}
 use Rattle.words.specs.Placed.{placed}
-use Rattle.words.proofs.Laws.{length_words}
 use Rattle.barrier_paper.proofs.Named.{named_is}
 use Rattle.barrier_paper.proofs.Chains.{all_given, of_kind, Stands, stands, none_found}
 use Rattle.barrier_paper.proofs.windows.seek.Goals as goal
