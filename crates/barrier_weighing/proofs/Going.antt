@@ -57,51 +57,53 @@ module _ (N : Net) (d : BarrierDocument) (whole : Result (Unit {0}) BarrierFault
       from [] written judged = ap (λ u. refusing u Missing (Ok tt)) is ∙ judged
       from (s ∷ ss) written judged = absurd (omega (arith, ap length written))
 
-  -- the next step is cut off, as many matches as it has: `vs` are the bytes after its word
-  module _ (tanks : ℕ) (f : BarrierFormed tanks N.valves d) (w : ℕ) (vs : List ℕ) (next at : ℕ) (n : NextStep w (words vs) next at) where
-    tail_is : words vs ≡ map match_word n.step.matches ++ joined step_words n.more
-    tail_is = let e : words vs ≡ map match_word n.step.matches ++ joined step_words n.more = cc n.written in e
+-- the next step is cut off, as many matches as it has: `vs` are the bytes after its word
+module _ {N : Net} {d : BarrierDocument} {whole : Result (Unit {0}) BarrierFault} {tanks : ℕ} (f : BarrierFormed tanks N.valves d) {w : ℕ} (vs : List ℕ) {next at : ℕ} (n : NextStep N d whole w (words vs) next at) where
+  tail_is : words vs ≡ map match_word n.step.matches ++ joined step_words n.more
+  tail_is = let e : words vs ≡ map match_word n.step.matches ++ joined step_words n.more = cc n.written in e
 
-    pub to_is : (step_said w []).to ≡ n.step.to
-    to_is =
-        let head : w ≡ step_head n.step = cc n.written in
-        ap (λ v. (step_said v []).to) head ∙ ap (λ (s : Step). s.to) (step_says N.valves d.cases f.few_cases n.step n.fit).step_is
+  head_is : w ≡ step_head n.step
+  head_is = let e : w ≡ step_head n.step = cc n.written in e
 
-    said : (ms : List Match) → AllByRecursion (MatchFits (lines_in d.cases n.step.from)) ms → map match_said (map match_word ms) ≡ ms
-    said [] h = refl
-    said (m ∷ ms) h = rw (match_says tanks N.valves d.cases f.few_cases f.cases_fit n.step.from n.fit.from_there m h.0, said ms h.1) refl
+  step_is : step_said w n.step.matches ≡ n.step
+  step_is = ap (λ v. step_said v n.step.matches) head_is ∙ (step_says N.valves d.cases f.few_cases n.step n.fit).step_is
 
-    pub enough : length n.step.matches ≤ length vs / 4
-    enough = omega (arith, ap length tail_is, length-append (map match_word n.step.matches) (joined step_words n.more), length-map n.step.matches match_word, length_words vs)
+  pub from_is : (step_said w []).from ≡ n.step.from
+  from_is = ap (λ (s : Step). s.from) step_is
 
-    module _ (due : ℕ) (due_is : due ≡ length n.step.matches) (ms os : List ℕ) (front : ms ≡ take (4 * due) vs) (back : os ≡ drop (4 * due) vs) where
-      front_is : words ms ≡ map match_word n.step.matches
-      front_is = ap words front ∙ words_take due vs ∙ rw (due_is, tail_is) (take_at _ _ (length n.step.matches) (length-map n.step.matches match_word))
+  pub to_is : (step_said w []).to ≡ n.step.to
+  to_is = ap (λ (s : Step). s.to) step_is
 
-      back_is : words os ≡ joined step_words n.more
-      back_is = ap words back ∙ words_drop due vs ∙ rw (due_is, tail_is) (drop_at _ _ (length n.step.matches) (length-map n.step.matches match_word))
+  pub enough : length n.step.matches ≤ length vs / 4
+  enough = omega (arith, ap length tail_is, length-append (map match_word n.step.matches) (joined step_words n.more), length-map n.step.matches match_word, length_words vs)
 
-      whole_is : whole_step w (words ms) ≡ n.step
-      whole_is =
-          let head : w ≡ step_head n.step = cc n.written in
-          rw (front_is, said n.step.matches n.fit.matches_fit, head) (step_says N.valves d.cases f.few_cases n.step n.fit).step_is
+  said : (ms : List Match) → AllByRecursion (MatchFits (lines_in d.cases n.step.from)) ms → map match_said (map match_word ms) ≡ ms
+  said [] h = refl
+  said (m ∷ ms) h = rw (match_says tanks N.valves d.cases f.few_cases f.cases_fit n.step.from n.fit.from_there m h.0, said ms h.1) refl
 
-      pub whole_fits : StepFits N.valves d.cases (whole_step w (words ms))
-      whole_fits = subst (StepFits N.valves d.cases) (sym whole_is) n.fit
+  module _ {due : ℕ} (due_is : due ≡ length n.step.matches) {ms : List ℕ} (front : ms ≡ take (4 * due) vs) where
+    whole_is : whole_step w (words ms) ≡ n.step
+    whole_is =
+        let front_is : words ms ≡ map match_word n.step.matches =
+        ap words front ∙ words_take due vs ∙ rw (due_is, tail_is) (take_at _ _ (length n.step.matches) (length-map n.step.matches match_word)) in
+        rw (front_is, said n.step.matches n.fit.matches_fit) step_is
 
-      -- the step is in order
-      pub goes_on : (next' : ℕ) → Ok next' ≡ step_judged N (barrier_of d) next at (whole_step w (words ms)) → Going (words os) next' (at + (1 + due))
-      goes_on next' is =
-          let e : Ok next' ≡ step_judged N (barrier_of d) next at n.step = is ∙ ap (step_judged N (barrier_of d) next at) whole_is in
-          let count : 1 + due ≡ suc (length n.step.matches) = omega (arith, due_is) in
-          record {
-            steps = n.more;
-            fits = n.more_fit;
-            written = back_is;
-            judged = rw count (ap (λ r. onward r (λ k. steps_judged N (barrier_of d) k (at + suc (length n.step.matches)) n.more)) e ∙ n.judged);
-          }
+    pub whole_fits : StepFits N.valves d.cases (whole_step w (words ms))
+    whole_fits = subst (StepFits N.valves d.cases) (sym whole_is) n.fit
 
-      -- the step is refused
-      pub refuses : (e : BarrierFault) → Err e ≡ step_judged N (barrier_of d) next at (whole_step w (words ms)) → Err e ≡ whole
-      refuses e is =
-          ap (λ r. onward r (λ k. steps_judged N (barrier_of d) k (at + suc (length n.step.matches)) n.more)) (is ∙ ap (step_judged N (barrier_of d) next at) whole_is) ∙ n.judged
+    -- the step is refused
+    pub refuses : (e : BarrierFault) → Err e ≡ step_judged N (barrier_of d) next at (whole_step w (words ms)) → Err e ≡ whole
+    refuses e is =
+        ap (λ r. onward r (λ k. steps_judged N (barrier_of d) k (at + suc (length n.step.matches)) n.more)) (is ∙ ap (step_judged N (barrier_of d) next at) whole_is) ∙ n.judged
+
+    -- the step is in order
+    pub goes_on : {os : List ℕ} → os ≡ drop (4 * due) vs → (next' : ℕ) → Ok next' ≡ step_judged N (barrier_of d) next at (whole_step w (words ms)) → Going N d whole (words os) next' (at + (1 + due))
+    goes_on {os} back next' is =
+        let count : 1 + due ≡ suc (length n.step.matches) = omega (arith, due_is) in
+        record {
+          steps = n.more;
+          fits = n.more_fit;
+          written = ap words back ∙ words_drop due vs ∙ rw (due_is, tail_is) (drop_at _ _ (length n.step.matches) (length-map n.step.matches match_word));
+          judged =
+              rw count (ap (λ r. onward r (λ k. steps_judged N (barrier_of d) k (at + suc (length n.step.matches)) n.more)) (is ∙ ap (step_judged N (barrier_of d) next at) whole_is) ∙ n.judged);
+        }

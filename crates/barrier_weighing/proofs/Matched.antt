@@ -66,6 +66,6 @@ module _ (N : Net) (way : Way) (t : ℕ) (φ : Case) where
             record { below = inside; passes = ap not (told i false inside h.1); least = λ k l. ap not (told k true (omega arith) (λ d. h.2 k d (omega arith) l)) }
 
 -- in an open valve's step, the first match that is not good
-pub bad_is : (N : Net) (β : Barrier) (s : Step) (M : Net) (way : Way) (t n : ℕ) (φ φ' : Case) → M ≡ N → way ≡ s.way → t ≡ s.valve → n ≡ length s.matches → φ ≡ case_at β s.from → φ' ≡ case_at β s.to → N.opens s.valve ≡ true
+pub bad_is : (N : Net) (β : Barrier) (s : Step) {M : Net} {way : Way} {t n : ℕ} {φ φ' : Case} → M ≡ N → way ≡ s.way → t ≡ s.valve → n ≡ length s.matches → φ ≡ case_at β s.from → φ' ≡ case_at β s.to → N.opens s.valve ≡ true
     → first_below n (λ k. not (good_match M way t φ φ' s.matches k)) ≡ first_bad N β s
-bad_is N β s M way t n φ φ' a b c e f f' o = rw (a, b, c, e, f, f') (sym (cond-true (N.opens s.valve) _ _ o))
+bad_is N β s a b c e f f' o = rw (a, b, c, e, f, f') (sym (cond-true (N.opens s.valve) _ _ o))

@@ -30,7 +30,7 @@ key_is w ws =
     let b : way_bit (way_said w) ≡ field w 27 1 = bit_is (field w 27 1) (omega arith) in
     omega (arith, b)
 
-module _ (x : ArrayVec (ArrayVec LineWeights)) (d : BarrierDocument) (meant : barrier_meant x ≡ barrier_of d) (j i : ℕ) (is : j ≡ i) (h : i < length d.cases) where
+module _ (x : ArrayVec (ArrayVec LineWeights)) (d : BarrierDocument) (meant : barrier_meant x ≡ barrier_of d) {j i : ℕ} (is : j ≡ i) (h : i < length d.cases) where
   -- a case of the document is in the vector
   pub there : j < length x.items
   there = omega (arith, is, h, ap length meant, length-map x.items case_meant, cases_kept d)
@@ -43,12 +43,12 @@ module _ (x : ArrayVec (ArrayVec LineWeights)) (d : BarrierDocument) (meant : ba
   lines_are z = sym (length-map (get_or x.items j z).items line_meant) ∙ ap length (case_is z) ∙ lines_kept d i
 
 -- what the matches of a step keep that fits
-module _ (valves : ℕ) (d : BarrierDocument) (w : ℕ) (ws : List ℕ) (fits : StepFits valves d.cases (whole_step w ws)) where
+module _ {valves : ℕ} (d : BarrierDocument) (w : ℕ) (ws : List ℕ) (fits : StepFits valves d.cases (whole_step w ws)) where
   pub matched : (xs : List LineWeights) → map line_meant xs ≡ case_at (barrier_of d) (whole_step w ws).to → length ws ≡ length xs
   matched xs e = omega (arith, fits.matched, length-map ws match_said, length-map xs line_meant, ap length e, lines_kept d (whole_step w ws).to)
 
-  pub named : (φ : Case) → φ ≡ case_at (barrier_of d) (whole_step w ws).from → (k : ℕ) → k < length ws → (get_or (map match_said ws) k no_match).line < length φ
-  named φ e k h =
+  pub named : {φ : Case} → φ ≡ case_at (barrier_of d) (whole_step w ws).from → (k : ℕ) → k < length ws → (get_or (map match_said ws) k no_match).line < length φ
+  named e k h =
       let m = All-get_or (MatchFits (lines_in d.cases (whole_step w ws).from)) (map match_said ws) k no_match (omega (arith, length-map ws match_said)) fits.matches_fit in
       omega (arith, m.line_there, ap length e, lines_kept d (whole_step w ws).from)
 

@@ -1,5 +1,5 @@
 // The lines of a barrier paper as weights, each line's words read once, and whether they hold of a pair of fillings.
-ghost use Rattle.std.specs.Prelude.{◌≡◌, ℕ, min};
+ghost use Rattle.std.specs.Prelude.{◌≡◌, ℕ};
 ghost use Rattle.words.specs.Words.{words};
 ghost use Rattle.plant.specs.Walk.{held};
 ghost use Rattle.barriers.specs.Tests.{holds_case?, holds_barrier?};

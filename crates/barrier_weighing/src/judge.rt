@@ -1,5 +1,5 @@
 // A barrier paper on a plant: the steps of its barrier, in the order of their places, and the whole.
-ghost use Rattle.std.specs.Prelude.{◌≡◌, ℕ, ◌^◌, ◌<◌, length, IfSome};
+ghost use Rattle.std.specs.Prelude.{◌≡◌, ◌^◌, ◌<◌, length};
 ghost use Rattle.plant.specs.Walk.{held};
 ghost use Rattle.words.specs.Words.{words};
 ghost use Rattle.barriers.specs.Lines.{line_at};
@@ -24,7 +24,7 @@ use words::{Reader, Word};
 // How many places steps can have: 2 directions, 16 cases and 64 valves.
 const MOST_PLACES: usize = 2048;
 
-// Whether a match is good, from the line of a case that its word names to a line.
+// Whether a match is good, from the line of a case that its word names to a line. One that names no line is not.
 fn is_match_good<P: Plant>(
     valve: &ValveWeights<P>,
     way: Way,

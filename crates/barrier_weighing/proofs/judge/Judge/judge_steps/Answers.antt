@@ -1,22 +1,21 @@
-use Rattle.std.proofs.Common.{◌≡◌, ℕ, ◌+◌, ◌*◌, ◌/◌, ◌≤◌, List, length, get_or, take, drop, Some, None, Ok, Err, Result, sym, ap, ◌∙◌, arith, length-append}
+use Rattle.std.proofs.Common.{◌≡◌, ℕ, ◌*◌, ◌≤◌, length, get_or, Some, None, Result, sym, ap, ◌∙◌, arith, length-append}
 use Rattle.std.proofs.lemmas.Result.{err_from_is_err_and}
 use Rattle.arrayvec.specs.ArrayVec.{ArrayVec}
 use Rattle.plant.specs.Net.{Net}
 use Rattle.words.specs.Words.{words}
 use Rattle.words.proofs.Laws.{length_words}
 use Rattle.words.proofs.Placing.{none_left}
-use Rattle.barrier_paper.specs.Document.{BarrierDocument, BarrierFormed, StepFits, barrier_of, joined, case_words}
+use Rattle.barrier_paper.specs.Document.{BarrierDocument, BarrierFormed, barrier_of, joined, case_words}
 use Rattle.barrier_paper.specs.OfBarrier.{barrier_said}
 use Rattle.barrier_paper.specs.Windows.{before_steps, steps_part}
 use Rattle.barrier_paper.proofs.Parts.{steps_found, before_steps_found}
 use Rattle.barrier_paper.proofs.Seeking.{steps_last}
 use Rattle.barrier_rule.specs.declared.faults.BarrierFault.{BarrierFault}
-use Rattle.barrier_rule.specs.Judgement.{step_judged, steps_judged}
+use Rattle.barrier_rule.specs.Judgement.{steps_judged}
 use Rattle.lines.specs.declared.line.LineWeights.{LineWeights}
-use Rattle.barrier_weighing.specs.OfMatches.{whole_step}
 use Rattle.barrier_weighing.proofs.Reading.{formed_of}
 use Rattle.barrier_weighing.proofs.Steps.{there, lines_are}
-use Rattle.barrier_weighing.proofs.Going.{Going, NextStep, after, read_next, peel, last, to_is, enough, whole_fits, goes_on, refuses}
+use Rattle.barrier_weighing.proofs.Going.{NextStep, after, read_next, peel, last, from_is, to_is, enough, whole_fits, goes_on, refuses}
 use Rattle.barrier_weighing.proofs.judge.Judge.judge_steps.Given as given
 use Rattle.barrier_weighing.proofs.judge.Judge.judge_steps.Goals as goal
 use Rattle.barrier_weighing.proofs.judge.Judge.judge_steps.Goals.{After-from}
@@ -55,47 +54,37 @@ module _ (g : given.Over) (c : After-from g) where
   next = peel N d whole (words c.loop-word.rest.now) c.loop-word.next c.loop-word.place c.loop-word.invariant.1 c.in-Some.word.bits _ (read_next c.loop-word.rest.now c.in-Some.word c.in-Some.ensures)
 
   reaches : c.from.result.to ≡ next.step.to
-  reaches = c.from.ensures.to ∙ to_is N d whole N.tanks formed c.in-Some.word.bits (after c.loop-word.rest.now) c.loop-word.next c.loop-word.place next
-
-  many : length next.step.matches ≤ length (after c.loop-word.rest.now) / 4
-  many = enough N d whole N.tanks formed c.in-Some.word.bits (after c.loop-word.rest.now) c.loop-word.next c.loop-word.place next
+  reaches = c.from.ensures.to ∙ to_is formed (after c.loop-word.rest.now) next
 
   -- it has as many matches as the case that it reaches has lines
-  module _ (due : ℕ) (z : ArrayVec LineWeights) (z_is : z ≡ get_or c.deref.result.now c.from.result.to z) (due_is : due ≡ length z.items) where
-    all : due ≡ length next.step.matches
-    all =
-        let lines = lines_are c.args.self.now.cases d c.args.self.now.meant _ _ reaches next.fit.to_there z in
-        due_is ∙ ap (λ x. length x.items) (z_is ∙ ap (λ xs. get_or xs c.from.result.to z) c.deref.ensures.0) ∙ lines ∙ sym next.fit.matched
-
-    module _ (ms os : List ℕ) (front : ms ≡ take (4 * due) (after c.loop-word.rest.now)) (back : os ≡ drop (4 * due) (after c.loop-word.rest.now)) where
-      fits : StepFits N.valves d.cases (whole_step c.in-Some.word.bits (words ms))
-      fits = whole_fits N d whole N.tanks formed c.in-Some.word.bits (after c.loop-word.rest.now) c.loop-word.next c.loop-word.place next due all ms os front back
-
-      on : (next' : ℕ) → Ok next' ≡ step_judged N (barrier_of d) c.loop-word.next c.loop-word.place (whole_step c.in-Some.word.bits (words ms)) → Going N d whole (words os) next' (c.loop-word.place + (1 + due))
-      on = goes_on N d whole N.tanks formed c.in-Some.word.bits (after c.loop-word.rest.now) c.loop-word.next c.loop-word.place next due all ms os front back
-
-      refused : (e : BarrierFault) → Err e ≡ step_judged N (barrier_of d) c.loop-word.next c.loop-word.place (whole_step c.in-Some.word.bits (words ms)) → Err e ≡ whole
-      refused = refuses N d whole N.tanks formed c.in-Some.word.bits (after c.loop-word.rest.now) c.loop-word.next c.loop-word.place next due all ms os front back
+  all : {due : ℕ} {z : ArrayVec LineWeights} → z ≡ get_or c.deref.result.now c.from.result.to z → due ≡ length z.items → due ≡ length next.step.matches
+  all {z = z} z_is due_is =
+      let lines = lines_are c.args.self.now.cases d c.args.self.now.meant reaches next.fit.to_there z in
+      due_is ∙ ap (λ x. length x.items) (z_is ∙ ap (λ xs. get_or xs c.from.result.to z) c.deref.ensures.0) ∙ lines ∙ sym next.fit.matched
 
 pub bounds-deref-from : goal.bounds-deref-from
 bounds-deref-from g c =
-    let inside = there c.args.self.now.cases (barrier_said c.args.self.now.paper.now) c.args.self.now.meant _ _ (reaches g c) (next g c).fit.to_there in
-    omega (arith, inside, ap length c.deref.ensures.0)
+    let x = c.args.self.now.cases in
+    let meant = c.args.self.now.meant in
+    let leaves : c.from.result.from ≡ (next g c).step.from = c.from.ensures.from ∙ from_is (formed g c) (after c.loop-word.rest.now) (next g c) in
+    omega (arith, there x (d g c) meant leaves (next g c).fit.from_there, there x (d g c) meant (reaches g c) (next g c).fit.to_there, ap length c.deref.ensures.0)
 
 pub split_at-requires : goal.split_at-requires
 split_at-requires g c =
     let a = (goal.at.split_at-requires g c).After-from in
-    let h : 4 * c.len-due.result ≤ length (after c.loop-word.rest.now) = omega (arith, many g a, all g a c.len-due.result c.index-deref-from.result c.index-deref-from.is c.len-due.ensures.value) in
+    let h : 4 * c.len-due.result ≤ length (after c.loop-word.rest.now) = omega (arith, enough (formed g a) _ (next g a), all g a c.index-deref-from.is c.len-due.ensures.value) in
     h
 
 pub judge_step-requires-clause-fits : goal.judge_step-requires-clause-fits
 judge_step-requires-clause-fits g c =
-    fits g (goal.at.judge_step-requires-clause-fits g c).After-from c.len-due.result c.index-deref-from.result c.index-deref-from.is c.len-due.ensures.value c.split_at.result.0.now c.split_at.result.1.now c.split_at.ensures.front c.split_at.ensures.back
+    let a = (goal.at.judge_step-requires-clause-fits g c).After-from in
+    whole_fits (formed g a) _ (next g a) (all g a c.index-deref-from.is c.len-due.ensures.value) c.split_at.ensures.front
 
 pub returns-in_err-next : goal.returns-in_err-next
 returns-in_err-next g c =
+    let a = (goal.at.returns-in_err-next g c).After-from in
     let p = err_from_is_err_and c.from_residual.result c.from_residual.ensures.1 in
-    rw (p.1, p.2) (refused g (goal.at.returns-in_err-next g c).After-from c.len-due.result c.index-deref-from.result c.index-deref-from.is c.len-due.ensures.value c.split_at.result.0.now c.split_at.result.1.now c.split_at.ensures.front c.split_at.ensures.back c.in_err-next.field-0.0 c.in_err-next.ensures)
+    rw (p.1, p.2) (refuses (formed g a) _ (next g a) (all g a c.index-deref-from.is c.len-due.ensures.value) c.split_at.ensures.front c.in_err-next.field-0.0 c.in_err-next.ensures)
 
 pub loop-word-smaller : goal.loop-word-smaller
 loop-word-smaller g c =
@@ -104,10 +93,10 @@ loop-word-smaller g c =
 
 pub loop-word-preserved : goal.loop-word-preserved
 loop-word-preserved g c =
-    let read = read_next c.loop-word.rest.now c.in-Some.word c.in-Some.ensures in
-    let before = c.loop-word.invariant.0 in (
-      omega (arith, before, ap length read, c.split_at.ensures.front_len, c.split_at.ensures.back_len, length_words c.split_at.result.1.now, length_words (after c.loop-word.rest.now)),
-      on g (goal.at.loop-word-preserved g c).After-from c.len-due.result c.index-deref-from.result c.index-deref-from.is c.len-due.ensures.value c.split_at.result.0.now c.split_at.result.1.now c.split_at.ensures.front c.split_at.ensures.back c.in_ok-next.next c.in_ok-next.ensures,
+    let a = (goal.at.loop-word-preserved g c).After-from in
+    let read = read_next c.loop-word.rest.now c.in-Some.word c.in-Some.ensures in (
+      omega (arith, c.loop-word.invariant.0, ap length read, c.split_at.ensures.front_len, c.split_at.ensures.back_len, length_words c.split_at.result.1.now, length_words (after c.loop-word.rest.now)),
+      goes_on (formed g a) _ (next g a) (all g a c.index-deref-from.is c.len-due.ensures.value) c.split_at.ensures.front c.split_at.ensures.back c.in_ok-next.next c.in_ok-next.ensures,
     )
 
 pub returns-in-Some-first_gap : goal.returns-in-Some-first_gap
