@@ -103,7 +103,7 @@ impl BarrierForm {
         Ok(self.in_phase(Phase::Left(0)))
     }
 
-    // What refuses a weight word.
+    // What refuses a weight word. `least` is the phase's, the word the reader's: two parameters, here and below.
     fn check_weight(&self, least: u32, word: Word) -> Result<(), PaperFault>
         ensures { result ≡ spec.weight_checked least self.now.counts.tanks word.place word.bits }
     {

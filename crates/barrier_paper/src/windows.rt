@@ -1,4 +1,5 @@
-// Parts of a barrier paper. Each is a part of the paper's bytes: nothing is copied.
+// Parts of a barrier paper. Each is a part of the paper's bytes: nothing is copied. The same bytes are asked for words of one kind and of
+// another, so bytes and kind are two parameters and no struct.
 ghost use Rattle.std.specs.Prelude.{◌≡◌, length};
 ghost use Rattle.words.specs.Words.{words};
 ghost use Rattle.words.specs.Kinds.{number_of};

@@ -130,7 +130,7 @@ impl<'a, P: Plant> Judge<'a, P> {
         }
     }
 
-    // Whether the barrier holds of a pair of fillings.
+    // Whether the barrier holds of a pair of fillings: of three pairs of the two, so that they are two parameters.
     fn holds(&self, source: &Amounts, target: &Amounts) -> bool
         ensures { result ≡ holds_barrier? (P.Plant.meaning self.now.plant.now).tanks (barrier_of (barrier_said self.now.paper.now)) (held source.now.each) (held target.now.each) }
     {

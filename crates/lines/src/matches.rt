@@ -35,7 +35,7 @@ pub struct Match<'a> {
     pub factors: Factors,
 }
 
-// a times x less b times y.
+// a times x less b times y. Here and in the two below a and b are the factors of a match in either order, and so not one `Factors`.
 fn difference(a: u16, x: i64, b: u16, y: i64) -> i64
     requires first { unsigned_abs x ≤ most_valve_side }
     requires second { unsigned_abs y ≤ most_valve_side }

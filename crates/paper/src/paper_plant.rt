@@ -89,6 +89,7 @@ impl<'a> PaperPlant<'a> {
         if valve >= self.counts.valves || tank >= self.counts.tanks {
             return 0;
         }
+        // A match: in a closure the cast would have to be told its bound.
         match self.find(key_of(kind, valve, tank)) {
             Some(arc) => arc.field(0, 10) as u16,
             None => 0,
@@ -112,6 +113,7 @@ impl Plant for PaperPlant<'_> {
         valve < self.counts.valves
     }
 
+    // Two questions of the trait, alike but for the kind of arc.
     fn intake(&self, valve: usize, tank: usize) -> u16 {
         self.weight(Kind::Intake, valve, tank)
     }

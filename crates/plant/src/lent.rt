@@ -14,6 +14,7 @@ impl<P: Plant> Plant for &P {
         (**self).is_open(valve)
     }
 
+    // Two questions of the trait, alike but for their name.
     fn intake(&self, valve: usize, tank: usize) -> u16 {
         (**self).intake(valve, tank)
     }

@@ -1,4 +1,4 @@
-// A reader stands over a paper's bytes and keeps its place.
+// A reader stands over a paper's bytes and keeps its place, by which refusals name a word.
 ghost use Rattle.std.specs.Prelude.{◌≡◌, ◌+◌, ◌*◌, ◌≤◌, [], ◌∷◌, length, MatchOption};
 
 use crate::word::{self, Word};
