@@ -3,12 +3,13 @@
 
 ghost use Rattle.std.specs.Prelude.{◌≤◌, IfOk, vec_len};
 
+use dossier::limits::MOST_INPUT_BYTES;
 use std::alloc::Global;
 use std::io;
 use std::io::Read;
 
 // One byte more than a dossier may have: an input that is too long is known by it, and is not read on.
-const MOST: usize = 65_537;
+const MOST: usize = MOST_INPUT_BYTES + 1;
 
 // What comes from `input`, up to its end or up to `most` bytes.
 // No contract of `take` says that it keeps to its limit, so what lay beyond it would be cut off here.
@@ -21,13 +22,9 @@ fn read_at_most<R: Read + Drop>(heap: Global, input: R, most: usize) -> io::Resu
     Ok(bytes)
 }
 
-fn run(rt: &HostRuntime) -> io::Result<()> {
+fn main(rt: HostRuntime) -> io::Result<()> {
     let heap = rt.alloc();
     let input = read_at_most(heap, rt.stdin(), MOST)?;
     let line = dossier::line(heap, input.as_slice())?;
     rt.print(line)
-}
-
-fn main(rt: HostRuntime) -> io::Result<()> {
-    run(&rt)
 }

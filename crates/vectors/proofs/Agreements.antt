@@ -1,20 +1,13 @@
 -- What a line agrees to, by its row, the bytes of its dossier and the answer to them.
-use Rattle.std.proofs.Common.{◌≡◌, ℕ, Bool, true, false, List, [], ◌∷◌, ◌++◌, Some, None, Decides, Option, sym, refl, ap, ◌∙◌, subst}
-use borrow.Author.Tests.{clash}
+use Rattle.std.proofs.Common.{◌≡◌, ℕ, Bool, false, List, [], ◌∷◌, ◌++◌, Some, None, Decides, Option, sym, refl, ap, ◌∙◌, subst}
 use Rattle.std.specs.Str.{bytes_eq}
+use Rattle.std.proofs.lemmas.Bool.Decides.{same_from_decides}
 use Rattle.std.proofs.lemmas.Slice.Eq.{bytes_eq-Decides}
 use Rattle.dossier.specs.Judging.{judged}
 use Rattle.dossier.specs.Line.{line_of}
 use Rattle.vectors.specs.Agreement.{answered, row_agrees, agrees}
 use Rattle.vectors.specs.Hex.{bytes_of}
 use Rattle.vectors.specs.Table.{cells}
-
--- two tests of one fact are equal
-same_test : {P : Type 0} (a b : Bool) → Decides a P → Decides b P → a ≡ b
-same_test true true p q = refl
-same_test true false p q = absurd (clash (q.1 (p.0 refl)))
-same_test false true p q = absurd (clash (p.1 (q.0 refl)))
-same_test false false p q = refl
 
 at_row : (line name digits expected : List ℕ) (input : Option (List ℕ)) → Some (name, digits, expected) ≡ cells line → input ≡ bytes_of digits → answered input expected ≡ agrees line
 at_row line name digits expected input row read = ap (λ o. answered o expected) read ∙ ap row_agrees row
@@ -26,7 +19,7 @@ none_answered expected = refl
 some_answered : (input answer expected : List ℕ) (r : Bool) → answer ≡ line_of (judged input) → Decides r (answer ≡ expected ++ 10 ∷ []) → r ≡ answered (Some input) expected
 unfolding answered
 some_answered input answer expected r is tells =
-    same_test r (bytes_eq (line_of (judged input)) (expected ++ 10 ∷ [])) (subst (λ (a : List ℕ). Decides r (a ≡ expected ++ 10 ∷ [])) is tells) (bytes_eq-Decides (line_of (judged input)) (expected ++ 10 ∷ []))
+    same_from_decides r (bytes_eq (line_of (judged input)) (expected ++ 10 ∷ [])) (subst (λ (a : List ℕ). Decides r (a ≡ expected ++ 10 ∷ [])) is tells) (bytes_eq-Decides (line_of (judged input)) (expected ++ 10 ∷ []))
 
 -- a row whose digits, as bytes, write nothing does not agree
 pub unread : (line name digits expected given : List ℕ) → Some (name, digits, expected) ≡ cells line → given ≡ digits → None ≡ bytes_of given → false ≡ agrees line

@@ -1,15 +1,13 @@
 -- A line and its newline.
-use Rattle.std.proofs.Common.{◌≡◌, ℕ, Bool, false, List, [], ◌∷◌, ◌++◌, Decides, sym, ap, ◌∙◌}
-use borrow.Author.Tests.{clash}
+use Rattle.std.proofs.Common.{◌≡◌, ℕ, Bool, ◌≢◌, List, [], ◌∷◌, ◌++◌, Some, None, Option, MatchOption, Bor, Decides, sym, ap, ◌∙◌}
+use Rattle.std.specs.Option.{option_eq}
 use Rattle.std.proofs.lemmas.List.{append_cancel_right}
 
--- two texts that end with a newline are the same where they are the same before it
-pub ended_same : (answer line expected : List ℕ) (r : Bool) → answer ≡ line ++ 10 ∷ [] → Decides r (line ≡ expected) → Decides r (answer ≡ expected ++ 10 ∷ [])
-ended_same answer line expected r e d = (
-  λ t. e ∙ ap (λ l. l ++ 10 ∷ []) (d.0 t),
-  λ h. d.1 (append_cancel_right line expected (10 ∷ []) (sym e ∙ h)),
+-- a text is an expected line and a newline where what stands before its newline is that line
+pub ended_as : (eq : Bor (List ℕ) → Bor (List ℕ) → Bool) → ((x y : Bor (List ℕ)) → Decides (eq x y) (x.now ≡ y.now)) → (answer : List ℕ) (line : Option (Bor (List ℕ))) (expected : Bor (List ℕ)) (r : Bool)
+    → r ≡ option_eq eq line (Some expected) → MatchOption line ((front : List ℕ) → answer ≢ front ++ 10 ∷ []) (λ x. answer ≡ x.now ++ 10 ∷ []) → Decides r (answer ≡ expected.now ++ 10 ∷ [])
+ended_as eq same answer None expected r e h = (λ t. absurd (cc), λ k. absurd (h expected.now k))
+ended_as eq same answer (Some line) expected r e h = (
+  λ t. h ∙ ap (λ l. l ++ 10 ∷ []) ((same line expected).0 (sym e ∙ t)),
+  λ k. e ∙ (same line expected).1 (append_cancel_right line.now expected.now (10 ∷ []) (sym h ∙ k)),
 )
-
--- a text that ends with no newline is none of them
-pub never_ended : (answer expected : List ℕ) → ((front : List ℕ) → answer ≡ front ++ 10 ∷ [] → ⊥) → Decides false (answer ≡ expected ++ 10 ∷ [])
-never_ended answer expected no_end = (λ t. absurd (clash t), λ h. absurd (no_end expected h))

@@ -29,18 +29,16 @@ fn byte(high: u8, low: u8) -> Option<u8>
 pub fn decoded(heap: Global, digits: &[u8]) -> Result<Option<Vec<u8>>, AllocError>
     ensures { IfOk result (λ o. option_map vec_items o ≡ bytes_of digits.now) }
 {
+    let (pairs, rest) = digits.as_chunks::<2>();
+    if !rest.is_empty() {
+        return Ok(None);
+    }
     let mut bytes = Vec::new(heap);
-    let mut rest = digits;
-    while let [high, low, after @ ..] = rest {
+    for [high, low] in pairs {
         let Some(b) = byte(*high, *low) else {
             return Ok(None);
         };
         bytes.push(b)?;
-        rest = after;
     }
-    if rest.is_empty() {
-        Ok(Some(bytes))
-    } else {
-        Ok(None)
-    }
+    Ok(Some(bytes))
 }

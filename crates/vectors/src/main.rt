@@ -8,37 +8,31 @@ mod tally;
 
 use outcome::Outcome;
 use std::{fs, io};
+use table::Row;
 use tally::Tally;
 
 // How many disagreements are printed.
 const SHOWN: usize = 20;
 
-fn print_difference(rt: &HostRuntime, line: &str, outcome: Outcome) -> io::Result<()> {
+fn print_difference(rt: &impl Print, line: &str, outcome: Outcome) -> io::Result<()> {
     match outcome {
         Outcome::Unread => println!(rt; "not a row: {line}"),
         Outcome::Agrees => Ok(()),
-        Outcome::Differs(row, answer) => {
-            let name = row.name;
-            let expected = row.expected;
+        Outcome::Differs(Row { name, expected, .. }, answer) => {
             println!(rt; "{name}: expected {expected:?}, answered {answer:?}")
         }
     }
 }
 
-fn run(rt: &HostRuntime) -> io::Result<()> {
-    let heap = rt.alloc();
-    let table = fs::read_to_string(rt, "dossiers.tsv")?;
+fn main(rt: HostRuntime) -> io::Result<()> {
+    let table = fs::read_to_string(&rt, "dossiers.tsv")?;
     let mut tally = Tally::new();
     for line in table.as_str().lines() {
-        let outcome = Outcome::of(heap, line)?;
+        let outcome = Outcome::of(rt.alloc(), line)?;
         tally.count(outcome.is_agreement());
         if tally.differ() <= SHOWN {
-            print_difference(rt, line, outcome)?;
+            print_difference(&rt, line, outcome)?;
         }
     }
-    println!(rt; "{tally}")
-}
-
-fn main(rt: HostRuntime) -> io::Result<()> {
-    run(&rt)
+    println!(&rt; "{tally}")
 }

@@ -19,10 +19,7 @@ pub enum Outcome<'a> {
 fn is_expected(answer: &str, expected: &str) -> bool
     ensures { Decides result (answer.now ≡ expected.now ++ 10 ∷ []) }
 {
-    match answer.strip_suffix('\n') {
-        Some(line) => line == expected,
-        None => false,
-    }
+    answer.strip_suffix('\n') == Some(expected)
 }
 
 impl<'a> Outcome<'a> {

@@ -11,6 +11,7 @@ pub struct Tally {
 }
 
 impl Tally {
+    // By hand, since a struct with a ghost field derives no Default.
     pub fn new() -> Tally
         ensures dossiers { result.dossiers ≡ 0 }
         ensures agree { result.agree ≡ 0 }
@@ -45,8 +46,7 @@ impl fmt::Display for Tally {
     ghost output = { λ t. Some (decimal t.dossiers ++ (codes " dossiers, " ++ (decimal t.agree ++ codes " agree"))) };
 
     fn fmt<W: fmt::Write>(&self, f: &mut fmt::Formatter<W>) -> fmt::Result {
-        let dossiers = self.dossiers;
-        let agree = self.agree;
+        let Tally { dossiers, agree } = self;
         write!(f, "{dossiers} dossiers, {agree} agree")
     }
 }
