@@ -11,8 +11,7 @@ use Rattle.words.proofs.Laws.{length_words, words_take, words_drop}
 use Rattle.words.proofs.Placing.{reads}
 use Rattle.barriers.specs.Steps.{Match, Step}
 use Rattle.barrier_paper.specs.Document.{BarrierDocument, BarrierFormed, StepFits, MatchFits, barrier_of, lines_in, joined, step_words, step_said, match_word, match_said}
-use Rattle.barrier_paper.proofs.WordParts.{step_says, match_says}
-use Rattle.barrier_paper.proofs.WordParts.{step_head}
+use Rattle.barrier_paper.proofs.WordParts.{step_head, step_says, match_says}
 use Rattle.barrier_rule.specs.declared.faults.BarrierFault.{BarrierFault}
 use Rattle.barrier_rule.specs.declared.faults.BarrierFault.TheVariants.{Missing}
 use Rattle.barrier_rule.specs.Judgement.{most_places, gap, step_judged, steps_judged}

@@ -53,6 +53,7 @@ impl Weights {
 pub struct LineWeights {
     pub left: Weights,
     pub right: Weights,
+    // a line is strict or it is not, and nothing goes with it
     pub strict: bool,
 }
 

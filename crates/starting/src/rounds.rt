@@ -71,7 +71,7 @@ impl<'a, P: Plant> Going<'a, P> {
         ensures asked { (self.new.plant ≡ self.old.plant) × (self.new.filling ≡ self.old.filling) × (self.new.set ≡ self.old.set) }
     {
         let mut grew = false;
-        // A `for`, since each valve that goes changes the answer for those after it.
+        // A `for` and a mark beside it, since each valve that goes changes the answer for those after it.
         for valve in 0..self.plant.counts().valves {
             if !self.went[valve] && self.can_go(valve) {
                 self.let_go(valve);

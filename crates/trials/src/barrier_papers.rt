@@ -371,6 +371,7 @@ fn steps_of_barriers(rt: HostRuntime) -> Result<(), Fail> {
     )
 }
 
+// A table, and so a test, of its own.
 #[test]
 fn matches_of_steps(rt: HostRuntime) -> Result<(), Fail> {
     tried(

@@ -50,6 +50,7 @@ pub fn written(heap: Global, words: &[u32]) -> Result<Vec<u8>, AllocError> {
     Ok(bytes)
 }
 
+// Here and in other trials the heap and the words, and source and target, are what a trial lists, one by one.
 // A head and so many words after it: the first of them, and each next one greater by the step.
 pub fn written_out(
     heap: Global,

@@ -45,7 +45,7 @@ impl<P: Plant> Question<'_, P> {
         u64::from(total.amount) * u64::from(self.plant.outlet(total.valve, tank))
     }
 
-    // What the totals give to a tank.
+    // What the totals give to a tank. Each tank is asked about on one paper, so that tank and paper stay two parameters.
     fn given_to(&self, tank: usize, paper: &TotalsPaper) -> u64
         ensures is { result ≡ given (P.Plant.meaning self.now.plant.now) (totals_said paper.now).totals tank }
         ensures small { result ≤ 2 ^ 30 * most_evidence_words }

@@ -28,7 +28,8 @@ impl fmt::Display for Part {
     }
 }
 
-// What a refusal names: its number, its place, and the part of the program.
+// What a refusal names: its number, its place, and the part of the program. The number is what the format prints; the faults themselves
+// are enums.
 #[derive(Clone, Copy, Debug, PartialEq, Eq)]
 pub struct Refusal {
     pub number: u32,
