@@ -41,7 +41,7 @@ impl Word {
 }
 
 // The first word and what follows it, or None where fewer than four bytes are left.
-pub(crate) fn first_word(bytes: &[u8]) -> Option<(u32, &[u8])>
+pub fn first_word(bytes: &[u8]) -> Option<(u32, &[u8])>
     ensures { MatchOption result (length bytes.now < 4) (λ p. words bytes.now ≡ p.0 ∷ words p.1.now) }
 {
     let [a, b, c, d, rest @ ..] = bytes else {
