@@ -12,7 +12,7 @@ use Rattle.words.specs.declared.reader.Reader.{Reader}
 use Rattle.words.specs.Words.{words, kind}
 use Rattle.words.specs.Left.{to_come}
 use Rattle.words.specs.Placed.{placed}
-use Rattle.words.proofs.Placing.{all_to_come}
+use Rattle.words.proofs.Placing.{all_to_come, length_placed}
 use Rattle.words.proofs.Laws.{length_words, words_drop}
 use Rattle.barrier_paper.specs.Windows.{from_nth, before, count_kind}
 use Rattle.barrier_paper.proofs.Seeking.{seek_pass, seek_count, seek_found, before_le}
@@ -20,10 +20,6 @@ use Rattle.barrier_paper.proofs.Seeking.{seek_pass, seek_count, seek_found, befo
 -- a reader that stands at the first word gives all
 pub all_given : (r : Reader) (bs : List ℕ) → r.at ≡ 0 → r.bytes.now ≡ bs → YieldsList (YieldsFirst to_come) (λ w. w) r (placed 0 (words bs))
 all_given r bs a b = YieldsList-from_first (λ w. w) to_come (placed 0 (words bs)) (all_to_come r bs a b)
-
-length_placed : (at : ℕ) (ws : List ℕ) → length (placed at ws) ≡ length ws
-length_placed at [] = refl
-length_placed at (w ∷ ws) = ap suc (length_placed (at + 1) ws)
 
 -- they can be counted
 pub countable : (s r : Reader) (bs : List ℕ) → s ≡ r → r.at ≡ 0 → r.bytes.now ≡ bs → length bs < 2 ^ 64 → 0 + length (to_come s) < 2 ^ 64

@@ -7,6 +7,7 @@ use Rattle.std.proofs.lemmas.Slice.Zip.{length-zip, get_or-zip}
 use Rattle.plant.specs.Net.{Net}
 use Rattle.words.specs.declared.word.Word.{Word}
 use Rattle.words.specs.Placed.{placed}
+use Rattle.words.proofs.Placing.{length_placed}
 use Rattle.barriers.specs.Lines.{Case, Barrier, no_line, line_at, case_at}
 use Rattle.barriers.specs.Steps.{Way, Match, Step, no_match}
 use Rattle.barriers.specs.Tests.{good?}
@@ -16,10 +17,6 @@ use Rattle.lines.specs.OfLine.{line_meant}
 use Rattle.lines.specs.declared.line.LineWeights.{LineWeights}
 use Rattle.barrier_paper.specs.Document.{match_said}
 use Rattle.barrier_rule.specs.Judgement.{first_bad}
-
-length_placed : (at : ℕ) (ws : List ℕ) → length (placed at ws) ≡ length ws
-length_placed at [] = refl
-length_placed at (w ∷ ws) = ap suc (length_placed (at + 1) ws)
 
 placed_at : (at : ℕ) (ws : List ℕ) (k : ℕ) (v : Word) → k < length ws → (get_or (placed at ws) k v).bits ≡ get_or ws k 0
 placed_at at [] k v h = absurd (omega arith)

@@ -12,6 +12,7 @@ use Rattle.words.specs.Left.{left, to_come}
 use Rattle.words.specs.Placed.{placed}
 use Rattle.words.specs.Words.{words}
 use Rattle.words.proofs.Laws.{length_words}
+use Rattle.words.proofs.Placing.{length_placed}
 use Rattle.paper.specs.Limits.{most_evidence_words}
 use Rattle.paper.specs.Totals.{total_of}
 use Rattle.paper.specs.declared.totals.TotalsPaper.{TotalsPaper}
@@ -45,13 +46,9 @@ valve_named t at (w ∷ ws) = grind (arith, valve_named t (at + 1) ws)
 pub gives_few : (N : Net) → Bounded N → (r : ℕ) (w : Word) → gives N r w ≤ 2 ^ 30
 gives_few N b r w = omega (arith, mul-le (total_of w.bits).amount (N.outlet (total_of w.bits).valve r) 1048575 1023 (le_of_suc-le-suc (mod-lt (w.bits / 2 ^ 0) (lit< tt))) (b.outlet_small (total_of w.bits).valve r))
 
-length-placed : (at : ℕ) (ws : List ℕ) → length (placed at ws) ≡ length ws
-length-placed at [] = refl
-length-placed at (w ∷ ws) = omega (arith, length-placed (at + 1) ws)
-
 -- the words to come are within the bytes
 pub words_inside : (r : Reader) → 4 * length (to_come r) ≤ length r.bytes.now
-words_inside r = omega (arith, length-placed r.at (left r), length-drop r.at (words r.bytes.now), length_words r.bytes.now)
+words_inside r = omega (arith, length_placed r.at (left r), length-drop r.at (words r.bytes.now), length_words r.bytes.now)
 
 pub few_words : (r : Reader) (x : TotalsPaper) → r.bytes.now ≡ x.bytes.now → length (to_come r) ≤ most_evidence_words
 few_words r x e = omega (arith, words_inside r, ap length e)

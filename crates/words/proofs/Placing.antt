@@ -1,5 +1,5 @@
 -- The word at a place, and the words that a reader has yet to read.
-use Rattle.std.proofs.Common.{◌≡◌, ℕ, ◌+◌, ◌*◌, ◌≤◌, List, [], ◌∷◌, length, drop, Some, None, Option, sym, refl, ap, ◌∙◌, arith}
+use Rattle.std.proofs.Common.{◌≡◌, ℕ, suc, ◌+◌, ◌*◌, ◌≤◌, List, [], ◌∷◌, length, drop, Some, None, Option, refl, ap, arith}
 use Rattle.std.specs.Option.{option_map}
 use Rattle.words.specs.declared.word.Word.{Word}
 use Rattle.words.specs.Words.{words, first}
@@ -31,15 +31,10 @@ none_left k ws e = go (drop k ws) e
     go [] e = refl
     go (v ∷ vs) e = absurd (let z : ◌≡◌ {A = ℕ} 0 1 = cc in omega arith)
 
-same_word : (k : ℕ) (w : Word) → w.place ≡ k → ◌≡◌ {A = Word} w (record { place = k; bits = w.bits })
-same_word k w e = ap (λ p. record { place = p; bits = w.bits }) e
-
--- the word that was read comes first among those to come
-pub comes_first : (k : ℕ) (bs : List ℕ) (w : Word) → Some w ≡ word_at k (words bs) → placed k (drop k (words bs)) ≡ w ∷ placed (k + 1) (drop (k + 1) (words bs))
-comes_first k bs w e =
-    let r = reads k bs w e in
-    ap (placed k) r.left ∙ ap (λ v. v ∷ placed (k + 1) (drop (k + 1) (words bs))) (sym (same_word k w r.at))
-
 -- a reader that stands at the first word has all of them to come
 pub all_to_come : (r : Reader) (bs : List ℕ) → r.at ≡ 0 → r.bytes.now ≡ bs → to_come r ≡ placed 0 (words bs)
 all_to_come r bs e f = rw (e, f) refl
+
+pub length_placed : (at : ℕ) (ws : List ℕ) → length (placed at ws) ≡ length ws
+length_placed at [] = refl
+length_placed at (w ∷ ws) = ap suc (length_placed (at + 1) ws)
