@@ -9,7 +9,7 @@ use crate::question::{Counts, Plant};
 // A set of valves: the valves whose place holds true.
 pub type ValveSet = [bool; MOST_VALVES];
 
-#[derive(Drop)]
+#[derive(Clone, Copy, Debug, Drop)]
 pub struct Narrowed<P> {
     pub below: P,
     pub shut: ValveSet,
@@ -25,10 +25,7 @@ impl<P: Plant> Plant for Narrowed<P> {
     }
 
     fn is_open(&self, valve: usize) -> bool {
-        if valve < MOST_VALVES && self.shut[valve] {
-            return false;
-        }
-        self.below.is_open(valve)
+        self.below.is_open(valve) && !self.shut.get(valve).is_some_and(|&shut| shut)
     }
 
     fn intake(&self, valve: usize, tank: usize) -> u16 {

@@ -23,10 +23,11 @@ impl RingMain {
     fn size(&self) -> usize
         ensures { result ≡ (ring_main self.now.tanks).tanks }
     {
-        if self.tanks < LEAST_RING || self.tanks > MOST_TANKS {
-            return 0;
+        if (LEAST_RING..=MOST_TANKS).contains(&self.tanks) {
+            self.tanks
+        } else {
+            0
         }
-        self.tanks
     }
 }
 
@@ -47,19 +48,11 @@ impl Plant for RingMain {
     }
 
     fn intake(&self, valve: usize, tank: usize) -> u16 {
-        if valve < self.size() && tank == valve {
-            1
-        } else {
-            0
-        }
+        u16::from(valve < self.size() && tank == valve)
     }
 
     fn outlet(&self, valve: usize, tank: usize) -> u16 {
         let size = self.size();
-        if valve < size && tank == (valve + 1) % size {
-            1
-        } else {
-            0
-        }
+        u16::from(valve < size && tank == (valve + 1) % size)
     }
 }

@@ -4,7 +4,7 @@ ghost use Rattle.plant.specs.Bounds.{turned_bounded};
 
 use crate::question::{Counts, Plant};
 
-#[derive(Drop)]
+#[derive(Clone, Copy, Debug, Drop)]
 pub struct Turned<P> {
     pub below: P,
 }

@@ -1,10 +1,8 @@
 -- The least number below n that passes.
-use Rattle.std.proofs.Common.{◌≡◌, ℕ, zero, suc, ◌<◌, ◌≤◌, Bool, true, false, ◌⊎◌, Some, None, Option, refl, inl, inr, ⊎_elim, arith}
-use Rattle.std.proofs.lemmas.Bool.{cases_eq, cases_lt, cases_Bool}
+use Rattle.std.proofs.Common.{◌≡◌, ℕ, zero, suc, ◌<◌, Bool, true, false, cond, Some, None, Option, MatchOption, refl, sym, arith}
+use Rattle.std.specs.Option.{option_or}
+use Rattle.std.proofs.lemmas.Option.{MatchOption-at_none, MatchOption-at_some}
 use Rattle.starting.specs.Starting.{first_below}
-
-none≢some : {x : ℕ} {o : Option ℕ} → o ≡ None → o ≡ Some x → ⊥
-none≢some e h = let z : ◌≡◌ {A = ℕ} 0 1 = cc in omega arith
 
 -- k is the least number that passes, and it is below n
 pub record First (n : ℕ) (p : ℕ → Bool) (k : ℕ) : Type 0 where
@@ -13,49 +11,41 @@ pub record First (n : ℕ) (p : ℕ → Bool) (k : ℕ) : Type 0 where
   pub least : (t : ℕ) → t < k → p t ≡ false
 
 module _ (p : ℕ → Bool) where
-  first_kept : (n k : ℕ) → first_below n p ≡ Some k → first_below (suc n) p ≡ Some k
-  first_kept n k e = rw e refl
+  -- what a search below n may find
+  abbrev pub Found : ℕ → Option ℕ → Type 0
+  Found n r = MatchOption r ((t : ℕ) → t < n → p t ≡ false) (First n p)
 
-  first_new : (n : ℕ) → first_below n p ≡ None → p n ≡ true → first_below (suc n) p ≡ Some n
-  first_new n e h = rw (e, h) refl
+  found_more : (n : ℕ) (r : Option ℕ) (b : Bool) → b ≡ p n → Found n r → Found (suc n) (option_or r (cond b (Some n) None))
+  found_more n None true e h = record { below = omega arith; passes = sym e; least = h }
+  found_more n None false e h = λ t l. grind (arith, h t)
+  found_more n (Some k) b e f = record { below = omega (arith, f.below); passes = f.passes; least = f.least }
 
-  first_still : (n : ℕ) → first_below n p ≡ None → p n ≡ false → first_below (suc n) p ≡ None
-  first_still n e h = rw (e, h) refl
+  found : (n : ℕ) → Found n (first_below n p)
+  found zero = λ t l. absurd (omega arith)
+  found (suc n) = found_more n (first_below n p) (p n) refl (found n)
 
-  -- none passes: the search finds nothing
+  -- and it finds one thing alone
+  found_same : (n : ℕ) (r s : Option ℕ) → Found n r → Found n s → r ≡ s
+  found_same n None None h i = refl
+  found_same n None (Some k) h f = grind (arith, h k, f.below, f.passes)
+  found_same n (Some k) None f h = grind (arith, h k, f.below, f.passes)
+  found_same n (Some j) (Some k) f g = grind (arith, f.passes, g.passes, f.least k, g.least j)
+
+  pub first_is : (n : ℕ) (r : Option ℕ) → Found n r → r ≡ first_below n p
+  first_is n r h = found_same n r (first_below n p) h (found n)
+
   pub first_none : (n : ℕ) → ((t : ℕ) → t < n → p t ≡ false) → first_below n p ≡ None
-  first_none zero h = refl
-  first_none (suc n) h = first_still n (first_none n (λ t l. h t (omega arith))) (h n (omega arith))
+  first_none n h = sym (first_is n None h)
 
-  -- the least one that passes is found
   pub first_some : (n k : ℕ) → First n p k → first_below n p ≡ Some k
-  first_some zero k f = absurd (omega (arith, f.below))
-  first_some (suc n) k f =
-      ⊎_elim
-      (λ (l : k < n). first_kept n k (first_some n k (record { below = l; passes = f.passes; least = f.least })))
-      (λ (l : n ≤ k). let e : n ≡ k = omega (arith, f.below) in rw e (first_new k (first_none k f.least) f.passes))
-      (cases_lt k n)
-
-  -- each search ends in one of the two ways
-  pub first_ends : (n : ℕ) → ((t : ℕ) → t < n → p t ≡ false) ⊎ ((k : ℕ) × First n p k)
-  first_ends zero = inl (λ t l. absurd (omega arith))
-  first_ends (suc n) = step (first_ends n) (cases_Bool (p n))
-    where
-      step : ((t : ℕ) → t < n → p t ≡ false) ⊎ ((k : ℕ) × First n p k) → (p n ≡ true) ⊎ (p n ≡ false) → ((t : ℕ) → t < suc n → p t ≡ false) ⊎ ((k : ℕ) × First (suc n) p k)
-      step (inl h) (inl e) = inr (n, record { below = omega arith; passes = e; least = h })
-      step (inl h) (inr e) = inl (λ t l. ⊎_elim (λ (k : t ≡ n). rw k e) (λ (ne : t ≡ n → ⊥). h t (omega arith)) (cases_eq t n))
-      step (inr (k, f)) e = inr (k, record { below = omega (arith, f.below); passes = f.passes; least = f.least })
+  first_some n k f = sym (first_is n (Some k) f)
 
   pub none_first : (n : ℕ) → first_below n p ≡ None → (t : ℕ) → t < n → p t ≡ false
-  none_first n e =
-      ⊎_elim
-      (λ (h : (t : ℕ) → t < n → p t ≡ false). h)
-      (λ (f : (k : ℕ) × First n p k). absurd (none≢some e (first_some n f.0 f.1)))
-      (first_ends n)
+  none_first n e = MatchOption-at_none _ (First n p) e (found n)
 
   pub some_first : (n k : ℕ) → first_below n p ≡ Some k → First n p k
-  some_first n k e =
-      ⊎_elim
-      (λ (h : (t : ℕ) → t < n → p t ≡ false). absurd (none≢some (first_none n h) e))
-      (λ (f : (j : ℕ) × First n p j). let same : f.0 ≡ k = cc (first_some n f.0 f.1, e) in rw (← same) f.1)
-      (first_ends n)
+  some_first n k e = MatchOption-at_some _ (First n p) k e (found n)
+
+pub first_below_same : (p q : ℕ → Bool) (n : ℕ) → ((t : ℕ) → t < n → p t ≡ q t) → first_below n p ≡ first_below n q
+first_below_same p q zero h = refl
+first_below_same p q (suc n) h = grind (arith, first_below_same p q n (λ t l. h t (omega arith)), h n)

@@ -1,3 +1,4 @@
 pub mod Firsts
-pub mod Sweeps
 pub mod LeftOut
+pub mod Ranges
+pub mod Sweeps

@@ -1,9 +1,9 @@
--- The first valve of a set outside its greatest starting part, and what one round of the code that finds it adds.
-use Rattle.std.specs.Prelude.{◌≡◌, ℕ, zero, suc, ◌<◌, Bool, false, cond, not, ◌&&◌, ◌||◌, List, Some, None, Option, ◌==◌, slice_index_or}
+-- The first valve of a set outside its greatest starting part, and what the code that finds it keeps of the valves that went.
+use Rattle.std.specs.Prelude.{◌≡◌, ℕ, zero, suc, ◌<◌, Bool, true, false, cond, not, ◌&&◌, List, Some, None, Option, slice_index_or, nat_lt}
 use Rattle.std.specs.Option.{option_or}
 use Rattle.plant.specs.Net.{Net}
 use Rattle.plant.specs.Walk.{Marking}
-use Rattle.walks.specs.Rounds.{all_below, filled, next, greatest}
+use Rattle.walks.specs.Rounds.{some_below, greatest}
 
 -- the places of a table that hold true: the set that it stands for
 abbrev pub marked : List Bool → ℕ → Bool
@@ -18,15 +18,10 @@ first_below (suc n) p = option_or (first_below n p) (cond (p n) (Some n) None)
 abbrev pub left_out : Net → Marking → (ℕ → Bool) → Option ℕ
 left_out N m S = first_below N.valves (λ t. S t && not (greatest N m S t))
 
--- of the rounds: a table has, of each tank, whether it is filled once the valves of E run
-abbrev pub Tells : Net → Marking → (ℕ → Bool) → (ℕ → Bool) → Type 0
-Tells N m E F = (r : ℕ) → r < N.tanks → F r ≡ filled N m E r
+-- of the valves E that went: the table G has, of each tank, whether one of them gives to it
+abbrev pub TellsGiven : Net → (ℕ → Bool) → (ℕ → Bool) → Type 0
+TellsGiven N E G = (r : ℕ) → r < N.tanks → G r ≡ some_below N.valves (λ u. E u && nat_lt 0 (N.outlet u r))
 
--- the valve takes only from tanks of the table
-abbrev pub fed_by : Net → (ℕ → Bool) → ℕ → Bool
-fed_by N F t = all_below N.tanks (λ r. (N.intake t r == 0) || F r)
-
--- E with each valve of S below n that is let go by E and by those that join before it
-abbrev pub swept : Net → Marking → (ℕ → Bool) → (ℕ → Bool) → ℕ → ℕ → Bool
-swept N m S E zero t = E t
-swept N m S E (suc n) t = swept N m S E n t || (t == n && next N m S (swept N m S E n) t)
+-- and all of them are valves of the plant, and in the greatest starting part of S
+abbrev pub Within : Net → Marking → (ℕ → Bool) → (ℕ → Bool) → Type 0
+Within N m S E = (t : ℕ) → E t ≡ true → (t < N.valves) × (greatest N m S t ≡ true)

@@ -1,78 +1,85 @@
 // Which valves of a set can be set going from a filling, one after another.
-ghost use Rattle.std.specs.Prelude.{◌≡◌, ℕ, ◌<◌, ◌≤◌, false, not, ◌&&◌, ◌||◌, nat_lt};
-ghost use Rattle.plant.specs.Limits.{most_tanks};
+ghost use Rattle.std.specs.Prelude.{◌≡◌, ℕ, ◌<◌, ◌≤◌, true, false, ◌||◌, ◌==◌, MatchBool};
 ghost use Rattle.plant.specs.Walk.{held};
-ghost use Rattle.walks.specs.Rounds.{some_below, greatest};
-ghost use Rattle.starting.specs.Starting.{marked, Tells, fed_by, swept, left_out};
+ghost use Rattle.walks.specs.Rounds.{next, greatest};
+ghost use Rattle.starting.specs.Starting.{marked, TellsGiven, Within, left_out};
 
 use plant::limits::{MOST_TANKS, MOST_VALVES};
 use plant::{Plant, ValveSet};
+use std::array;
 
-// A set of tanks: the tanks whose place holds true. The filled tanks are kept beside the valves that went,
-// so that a valve is judged by its own weights alone.
+// A set of tanks: the tanks whose place holds true.
 type TankSet = [bool; MOST_TANKS];
 
-// What a tank holds. A tank that the filling does not list is empty.
-fn amount(filling: &[u32], tank: usize) -> u32
-    ensures { result ≡ held filling.now tank }
-{
-    if tank < filling.len() {
-        filling[tank]
-    } else {
-        0
-    }
+// The valves of a set that went so far, none outside the greatest starting part.
+// The tanks that they give to are kept beside them, so that a valve is judged by its own weights alone.
+#[derive(Drop)]
+struct Going<'a, P: Plant> {
+    plant: &'a P,
+    filling: &'a [u32],
+    set: &'a ValveSet,
+    went: ValveSet,
+    given: TankSet,
+    ghost told: { TellsGiven (P.Plant.meaning plant.now) (marked went) (marked given) },
+    ghost within: { Within (P.Plant.meaning plant.now) (held filling.now) (marked set.now) (marked went) },
 }
 
-// The tanks that hold something.
-fn holding_tanks(filling: &[u32]) -> TankSet
-    ensures { (r : ℕ) → r < most_tanks → marked result r ≡ nat_lt 0 (held filling.now r) }
-{
-    let mut filled = [false; MOST_TANKS];
-    for tank in 0..MOST_TANKS {
-        filled[tank] = amount(filling, tank) > 0;
-    }
-    filled
-}
-
-// Whether a valve takes only from filled tanks.
-fn is_fed<P: Plant>(plant: &P, filled: &TankSet, valve: usize) -> bool
-    ensures { result ≡ fed_by (P.Plant.meaning plant.now) (marked filled.now) valve }
-{
-    for tank in 0..plant.counts().tanks {
-        if plant.intake(valve, tank) > 0 && !filled[tank] {
-            return false;
+impl<'a, P: Plant> Going<'a, P> {
+    // No valve has gone yet.
+    fn new(plant: &'a P, filling: &'a [u32], set: &'a ValveSet) -> Self
+        ensures asked { (result.plant.now ≡ plant.now) × (result.filling.now ≡ filling.now) × (result.set.now ≡ set.now) }
+    {
+        Going {
+            plant,
+            filling,
+            set,
+            went: [false; MOST_VALVES],
+            given: [false; MOST_TANKS],
         }
     }
-    true
-}
 
-// Adds the tanks that a valve gives to.
-fn pour<P: Plant>(plant: &P, filled: &mut TankSet, valve: usize)
-    ensures { (r : ℕ) → marked filled.new r ≡ (marked filled.old r || nat_lt 0 ((P.Plant.meaning plant.now).outlet valve r)) }
-{
-    for tank in 0..plant.counts().tanks {
-        if plant.outlet(valve, tank) > 0 {
-            filled[tank] = true;
-        }
+    // Whether a valve is in the set, and takes only from tanks that hold something or are given to.
+    // A tank that the filling does not list is empty.
+    fn can_go(&self, valve: usize) -> bool
+        requires { valve < (P.Plant.meaning self.now.plant.now).valves }
+        ensures { let N = P.Plant.meaning self.now.plant.now in result ≡ next N (held self.now.filling.now) (marked self.now.set.now) (marked self.now.went) valve }
+    {
+        self.set[valve]
+            && (0..self.plant.counts().tanks).all(|tank| {
+                self.plant.intake(valve, tank) == 0
+                    || self.filling.get(tank).is_some_and(|&amount| amount > 0)
+                    || self.given[tank]
+            })
     }
-}
 
-// Lets go, in rising order, each valve of the set that waits and is fed: whether any went.
-// What a valve gives counts at once for the valves after it, which spares rounds.
-fn round<P: Plant>(plant: &P, set: &ValveSet, chosen: &mut ValveSet, filled: &mut TankSet) -> bool
-    ensures joined { (m : ℕ → ℕ) → Tells (P.Plant.meaning plant.now) m (marked chosen.old) (marked filled.old) → (t : ℕ) → marked chosen.new t ≡ swept (P.Plant.meaning plant.now) m (marked set.now) (marked chosen.old) (P.Plant.meaning plant.now).valves t }
-    ensures told { (m : ℕ → ℕ) → Tells (P.Plant.meaning plant.now) m (marked chosen.old) (marked filled.old) → Tells (P.Plant.meaning plant.now) m (marked chosen.new) (marked filled.new) }
-    ensures grew { result ≡ some_below (P.Plant.meaning plant.now).valves (λ t. marked chosen.new t && not (marked chosen.old t)) }
-{
-    let mut grew = false;
-    for valve in 0..plant.counts().valves {
-        if set[valve] && !chosen[valve] && is_fed(plant, filled, valve) {
-            chosen[valve] = true;
-            pour(plant, filled, valve);
-            grew = true;
-        }
+    // Lets a valve go that can.
+    fn let_go(&mut self, valve: usize)
+        requires inside { valve < (P.Plant.meaning self.old.plant.now).valves }
+        requires can { let N = P.Plant.meaning self.old.plant.now in next N (held self.old.filling.now) (marked self.old.set.now) (marked self.old.went) valve ≡ true }
+        ensures went { (t : ℕ) → marked self.new.went t ≡ (marked self.old.went t || t == valve) }
+        ensures asked { (self.new.plant ≡ self.old.plant) × (self.new.filling ≡ self.old.filling) × (self.new.set ≡ self.old.set) }
+    {
+        self.given = array::from_fn(|tank| self.given[tank] || self.plant.outlet(valve, tank) > 0);
+        self.went[valve] = true;
     }
-    grew
+
+    // Lets go, in rising order, each valve that waits and can go: whether any went.
+    // What a valve gives counts at once for the valves after it, which spares rounds.
+    fn round(&mut self) -> bool
+        ensures all { let N = P.Plant.meaning self.old.plant.now in (t : ℕ) → t < N.valves → next N (held self.old.filling.now) (marked self.old.set.now) (marked self.old.went) t ≡ true → marked self.new.went t ≡ true }
+        ensures grew { MatchBool result ((t : ℕ) × (marked self.new.went t ≡ true) × (marked self.old.went t ≡ false)) ((t : ℕ) → marked self.new.went t ≡ marked self.old.went t) }
+        ensures asked { (self.new.plant ≡ self.old.plant) × (self.new.filling ≡ self.old.filling) × (self.new.set ≡ self.old.set) }
+    {
+        let mut grew = false;
+        // A `for`, since each valve that goes changes the answer for those after it.
+        for valve in 0..self.plant.counts().valves {
+            if !self.went[valve] && self.can_go(valve) {
+                self.let_go(valve);
+                grew = true;
+            }
+        }
+        grew
+    }
 }
 
 // The greatest starting part of a set. A round in which none goes is the last;
@@ -81,14 +88,13 @@ pub fn greatest_start<P: Plant>(plant: &P, filling: &[u32], set: &ValveSet) -> V
     ensures part { (t : ℕ) → t < (P.Plant.meaning plant.now).valves → marked result t ≡ greatest (P.Plant.meaning plant.now) (held filling.now) (marked set.now) t }
     ensures beyond { (t : ℕ) → (P.Plant.meaning plant.now).valves ≤ t → marked result t ≡ false }
 {
-    let mut chosen = [false; MOST_VALVES];
-    let mut filled = holding_tanks(filling);
+    let mut going = Going::new(plant, filling, set);
     for _ in 0..plant.counts().valves {
-        if !round(plant, set, &mut chosen, &mut filled) {
+        if !going.round() {
             break;
         }
     }
-    chosen
+    going.went
 }
 
 // The first valve of a set outside its greatest starting part.
@@ -96,12 +102,7 @@ pub fn first_left_out<P: Plant>(plant: &P, filling: &[u32], set: &ValveSet) -> O
     ensures { result ≡ left_out (P.Plant.meaning plant.now) (held filling.now) (marked set.now) }
 {
     let start = greatest_start(plant, filling, set);
-    for valve in 0..plant.counts().valves {
-        if set[valve] && !start[valve] {
-            return Some(valve);
-        }
-    }
-    None
+    (0..plant.counts().valves).find(|&valve| set[valve] && !start[valve])
 }
 
 #[cfg(test)]
@@ -109,14 +110,14 @@ mod tests {
     use super::*;
     use plant::{Narrowed, RingMain, Turned};
 
+    fn set_of(valves: &[usize]) -> ValveSet {
+        array::from_fn(|valve| valves.contains(&valve))
+    }
+
     // Each valve is fed by the one before it; a valve that the ring does not have never goes.
     #[test]
     fn ring_starts_from_one_tank(rt: HostRuntime) {
-        let mut set = [false; MOST_VALVES];
-        set[0] = true;
-        set[1] = true;
-        set[3] = true;
-        set[9] = true;
+        let set = set_of(&[0, 1, 3, 9]);
         let ring = RingMain::new(4);
         let start = greatest_start(&ring, &[5], &set);
         assert!(rt; start[0] && start[1] && !start[2] && !start[3] && !start[9]);
@@ -127,10 +128,7 @@ mod tests {
     // Turned, each valve is fed by the one after it, so that the rounds go on.
     #[test]
     fn turned_ring_starts_from_its_last_valve(rt: HostRuntime) {
-        let mut set = [false; MOST_VALVES];
-        for valve in 1..4 {
-            set[valve] = true;
-        }
+        let set = set_of(&[1, 2, 3]);
         let turned = Turned {
             below: RingMain::new(4),
         };
@@ -142,8 +140,7 @@ mod tests {
     // What starts is asked of weights alone: a closed valve starts as well.
     #[test]
     fn closed_valve_starts(rt: HostRuntime) {
-        let mut shut = [false; MOST_VALVES];
-        shut[0] = true;
+        let shut = set_of(&[0]);
         let narrowed = Narrowed {
             below: RingMain::new(2),
             shut,

@@ -1,15 +1,11 @@
-use Rattle.std.proofs.Common.{◌<◌, sym, arith}
-use Rattle.plant.specs.Walk.{held}
+use Rattle.std.proofs.Common.{◌&&◌, not, ap, refl, ◌∙◌, rules, tests}
 use Rattle.starting.specs.Starting.{marked}
-use Rattle.starting.proofs.LeftOut.{none_out, some_out}
+use Rattle.starting.proofs.Firsts.{first_below_same}
+use Rattle.starting.proofs.Ranges.{find_over}
 use Rattle.starting.proofs.rounds.first_left_out.Goals as goal
-
-pub returns-then-not-start-valve : goal.returns-then-not-start-valve
-returns-then-not-start-valve g c =
-    sym (some_out (g.P.Plant.meaning c.args.plant.now) (held c.args.filling.now) (marked c.args.set.now) (marked c.greatest_start-start.result)
-    c.greatest_start-start.ensures.part c.loop-valve.valve (omega arith) c.if-set-valve.true c.if-not-start-valve.true c.loop-valve.invariant)
 
 pub returns : goal.returns
 returns g c =
-    sym (none_out (g.P.Plant.meaning c.args.plant.now) (held c.args.filling.now) (marked c.args.set.now)
-    (λ t (l : t < (g.P.Plant.meaning c.args.plant.now).valves). c.loop-valve.invariant t (omega arith)))
+    let S = marked c.args.set.now in
+    find_over (λ t. S t && not (marked c.greatest_start-start.result t)) refl c.counts.ensures.valves _ {r = c.find.result} c.find.ensures.ran (λ x b q k. search (rules, tests))
+    ∙ first_below_same _ _ _ (λ t l. ap (λ b. S t && not b) (c.greatest_start-start.ensures.part t l))

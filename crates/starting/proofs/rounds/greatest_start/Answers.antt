@@ -1,33 +1,39 @@
 use Rattle.std.proofs.Common.{◌≡◌, subst, add-one, arith}
+use Rattle.std.proofs.lemmas.Bool.{MatchBool-at_false}
 use Rattle.plant.specs.Walk.{held}
+use Rattle.walks.specs.Rounds.{rounds}
+use Rattle.walks.proofs.Closure.{Part}
 use Rattle.starting.specs.Starting.{marked}
-use Rattle.starting.proofs.Sweeps.{marked_none, tells_none, Reached, reached_none, reached_more, reached_end, reached_all}
+use Rattle.starting.proofs.Sweeps.{round_more, none_grew, rounds_all}
 use Rattle.starting.proofs.rounds.greatest_start.Goals as goal
-
-pub loop-init : goal.loop-init
-loop-init g c = (
-  tells_none (g.P.Plant.meaning c.args.plant.now) (held c.args.filling.now) _ _ (marked_none 64)
-      (λ r l. c.holding_tanks-filled.ensures r (omega (arith, (g.P.Plant.bounded c.args.plant.now).few_tanks))),
-  reached_none _ _ _ _ (marked_none 64),
-)
+use Rattle.starting.proofs.rounds.greatest_start.Goals.{else-loop-test, then-loop-test+then-not-round}
 
 pub loop-preserved : goal.loop-preserved
 loop-preserved g c =
+    let asked = c.loop.invariant.asked in
     rw add-one
-    (c.round.ensures.told _ c.loop.invariant.0, reached_more _ _ _ _ _ _ c.loop.invariant.1 (c.round.ensures.joined _ c.loop.invariant.0))
+    (record {
+      asked = (cc, cc, cc);
+      rounded = round_more (g.P.Plant.meaning c.args.plant.now) (held c.args.filling.now) (marked c.args.set.now) _ _ (rw (asked.0, asked.1, asked.2) at c.round.ensures.all) c.loop.counter c.loop.invariant.rounded;
+    })
 
--- the last round added nothing
-pub returns-then-not-round : goal.returns-then-not-round
-returns-then-not-round g c =
-    let round = c.round.ensures.joined _ c.loop.invariant.0 in
-    record {
-      part = reached_end _ _ _ _ _ _ c.loop.invariant.1 round c.round.result c.round.ensures.grew c.if-not-round.true;
-      beyond = (reached_more _ _ _ _ _ _ c.loop.invariant.1 round).beyond;
-    }
-
--- there were as many rounds as valves
-pub returns-after-loop : goal.returns-after-loop
-returns-after-loop g c =
-    let end : c.loop.counter ≡ (g.P.Plant.meaning c.args.plant.now).valves = omega arith in
-    let done = subst (λ n. Reached (g.P.Plant.meaning c.args.plant.now) (held c.args.filling.now) (marked c.args.set.now) n (marked c.loop.chosen)) end c.loop.invariant.1 in
-    record { part = reached_all _ _ _ _ done; beyond = done.beyond }
+-- the search ended after as many rounds as there are valves, or with a round that added nothing
+pub returns-clause-part : goal.returns-clause-part
+returns-clause-part g c =
+    let asked = c.loop.invariant.asked in
+    let N = g.P.Plant.meaning c.args.plant.now in
+    let m = held c.args.filling.now in
+    let S = marked c.args.set.now in
+    elim c.loop-test.branch [
+      | else-loop-test w ↦
+          let end : c.loop.counter ≡ N.valves = omega arith in
+          rw w.going-is
+          (rounds_all N m S (marked c.loop.going.went) (rw (asked.0, asked.1, asked.2) at c.loop.going.within)
+          (subst (λ k. Part N.valves (rounds N m S k) (marked c.loop.going.went)) end c.loop.invariant.rounded))
+      | then-loop-test+then-not-round w ↦
+          let same = w.round.ensures.asked in
+          rw w.going-is
+          (none_grew N m S _ _ (rw (asked.0, asked.1, asked.2) at w.round.ensures.all)
+          (rw (same.0, same.1, same.2, asked.0, asked.1, asked.2) at w.round.new.self.within)
+          (MatchBool-at_false _ _ w.if-not-round.true w.round.ensures.grew))
+    ]
