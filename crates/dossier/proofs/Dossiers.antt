@@ -1,8 +1,7 @@
 -- A written dossier is cut into the parts that it was written of, and weighed.
-use Rattle.std.proofs.Common.{◌≡◌, ℕ, ◌+◌, ◌/◌, ◌%◌, ◌<◌, ◌≤◌, eqb, ltb, List, [], ◌∷◌, ◌++◌, length, Ok, Err, sym, ap, ◌∙◌, subst, arith}
+use Rattle.std.proofs.Common.{◌≡◌, ℕ, ◌+◌, ◌%◌, ◌<◌, ◌≤◌, List, [], ◌∷◌, ◌++◌, length, Ok, sym, ap, ◌∙◌, subst, arith}
 use Rattle.std.proofs.lemmas.List.{length-append}
-use Rattle.std.proofs.lemmas.Bool.{eq-eqb, ne_eqb, not_from_true, cond-true, cond-false, le-ltb}
-use Rattle.words.specs.declared.faults.WordFault.TheVariants.{Ragged, Long}
+use Rattle.std.proofs.lemmas.Bool.{eq-eqb, ne_eqb, not_from_true, le-ltb}
 use Rattle.words.specs.Words.{words}
 use Rattle.words.specs.Faults.{raised}
 use Rattle.words.proofs.Inverses.{words_of_bytes}
@@ -86,9 +85,7 @@ module _ (d : PlantDocument) (A B evidence : List ℕ) (f : Writable d A B evide
       omega (arith, f.whole_words, length-append (plant_paper d) from_a, length-append (fill_paper source_kind A) from_b, length-append (fill_paper target_kind B) evidence, length_bytes (plant_words d), length_bytes (fill_words source_kind 0 A), length_bytes (fill_words target_kind 0 B))
 
   size : sized whole ≡ Ok tt
-  size =
-      cond-false (ltb most_input_bytes (length whole)) (Err (Long (most_input_bytes / 4))) _ (le-ltb _ _ f.few_bytes)
-      ∙ cond-true (eqb (length whole % 4) 0) (Ok tt) (Err (Ragged (length whole / 4))) (eq-eqb _ 0 whole_fours)
+  size = rw (le-ltb most_input_bytes (length whole) f.few_bytes, eq-eqb (length whole % 4) 0 whole_fours)
 
 pub a_written_dossier_is_weighed : AWrittenDossierIsWeighed
 a_written_dossier_is_weighed d A B evidence f =

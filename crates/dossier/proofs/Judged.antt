@@ -1,17 +1,15 @@
 -- A dossier whose parts are all read comes to the weighing.
-use Rattle.std.proofs.Common.{◌≡◌, ℕ, List, MatchResult, Ok, Err, Result, sym, refl, ap, ◌∙◌, arith}
+use Rattle.std.proofs.Common.{◌≡◌, ℕ, List, MatchResult, Ok, Err, Result, sym, refl, ap, ◌∙◌}
 use Rattle.plant.specs.Net.{Net}
 use Rattle.plant.specs.declared.question.Counts.{Counts}
 use Rattle.words.specs.Words.{words}
-use Rattle.words.specs.Faults.{onward, raised}
+use Rattle.words.specs.Faults.{raised}
 use Rattle.words.specs.declared.faults.PaperFault.{PaperFault}
-use Rattle.words.specs.declared.faults.WordFault.{WordFault}
 use Rattle.paper.specs.Arcs.{PlantDocument, plant_of}
 use Rattle.paper.specs.PlantForm.{plant_read, plant_made, plant_counts}
 use Rattle.weighing.specs.Weighing.{weighs}
-use Rattle.weighing.specs.declared.faults.Verdict.{Verdict}
 use Rattle.dossier.specs.declared.faults.DossierFault.{DossierFault}
-use Rattle.dossier.specs.declared.faults.DossierFault.TheVariants.{Input, Plant, Source, Target, Weighing}
+use Rattle.dossier.specs.declared.faults.DossierFault.TheVariants.{Weighing}
 use Rattle.dossier.specs.Faults.{sized}
 use Rattle.dossier.specs.Parts.{plant_part, source_part, target_part, evidence_part}
 use Rattle.dossier.specs.Fillings.{fill_read}

@@ -1,5 +1,5 @@
 -- A dossier is answered by JOINED only where its plant has a walk from its source to its target.
-use Rattle.std.proofs.Common.{◌≡◌, ℕ, ◌*◌, ◌<◌, Bool, List, IfOk, Ok, Err, codes, Result, sym, refl, ◌∙◌, subst, arith}
+use Rattle.std.proofs.Common.{◌≡◌, ℕ, ◌*◌, ◌<◌, Bool, List, Ok, Err, codes, Result, sym, refl, ◌∙◌, subst}
 use Rattle.std.specs.List.{prefix_len}
 use Rattle.std.proofs.ByRecursion.{All-drop}
 use Rattle.plant.specs.Net.{Bounded}

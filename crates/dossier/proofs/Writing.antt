@@ -1,13 +1,11 @@
 -- Words that are written are cut off and read again.
-use Rattle.std.proofs.Common.{◌≡◌, ℕ, ◌+◌, ◌*◌, ◌/◌, ◌%◌, ◌^◌, ◌<◌, ◌≤◌, Bool, true, false, eqb, ◌≢◌, List, [], ◌∷◌, ◌++◌, length, Ok, Result, refl, ap, ◌∙◌, arith}
+use Rattle.std.proofs.Common.{◌≡◌, ℕ, ◌+◌, ◌*◌, ◌/◌, ◌%◌, ◌^◌, ◌<◌, ◌≤◌, Bool, true, false, ◌≢◌, List, [], ◌∷◌, ◌++◌, length, Ok, refl, ap, ◌∙◌, arith}
 use Rattle.std.specs.List.{prefix_len, AllByRecursion}
 use Rattle.std.proofs.lemmas.List.{take_at, drop_at}
 use Rattle.std.proofs.ByRecursion.{All-weaker, All-map}
 use Rattle.std.proofs.lemmas.Bool.{eq-eqb, ne_eqb, not_from_false, cond-true, cond-false}
 use Rattle.plant.specs.Limits.{most_tanks, most_valves, most_weight}
-use Rattle.words.specs.declared.faults.PaperFault.{PaperFault}
 use Rattle.words.specs.Words.{words, bytes, word, kind, field}
-use Rattle.words.specs.Faults.{onward}
 use Rattle.words.specs.Inverse.{Words}
 use Rattle.paper.specs.Arcs.{Arc, PlantDocument, PlantFormed, ArcFits, arc_kind, arc_word, plant_words}
 use Rattle.dossier.specs.Parts.{before, of_kind, run_of, after}
@@ -98,8 +96,7 @@ put k t a hk ht ha = record { kind_is = omega arith; plain = omega arith; tank_i
 amount : (k t a : ℕ) → k < 16 → t < 64 → a < 2 ^ 20 → amount_read t (fill_word k t a) ≡ Ok a
 amount k t a hk ht ha =
     let p = put k t a hk ht ha in
-    cond-true (eqb (field (fill_word k t a) 20 2) 0) _ _ (eq-eqb _ _ p.plain)
-    ∙ (cond-true (eqb (field (fill_word k t a) 22 6) t) _ _ (eq-eqb _ _ p.tank_is) ∙ ap Ok p.amount_is)
+    rw (eq-eqb _ _ p.plain, eq-eqb _ _ p.tank_is, p.amount_is)
 
 module _ (k : ℕ) (hk : k < 16) where
   pub fill_small : (t : ℕ) (A : List ℕ) → t + length A ≤ 64 → AllByRecursion (λ a. a < 2 ^ 20) A → Words (fill_words k t A)
@@ -112,6 +109,4 @@ module _ (k : ℕ) (hk : k < 16) where
 
   pub fill_back : (t : ℕ) (A : List ℕ) → t + length A ≤ 64 → AllByRecursion (λ a. a < 2 ^ 20) A → fill_read t (fill_words k t A) ≡ Ok A
   fill_back t [] few h = refl
-  fill_back t (a ∷ A) few h =
-      ap (λ (r : Result ℕ PaperFault). onward r (λ x. onward (fill_read (t + 1) (fill_words k (t + 1) A)) (λ more. Ok (x ∷ more)))) (amount k t a hk (omega arith) h.0)
-      ∙ ap (λ (r : Result (List ℕ) PaperFault). onward r (λ more. Ok (a ∷ more))) (fill_back (t + 1) A (omega arith) h.1)
+  fill_back t (a ∷ A) few h = rw (amount k t a hk (omega arith) h.0, fill_back (t + 1) A (omega arith) h.1)

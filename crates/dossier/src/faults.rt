@@ -17,7 +17,7 @@ pub enum DossierFault {
     Weighing(WeighingFault),
 }
 
-// Written by hand: a derived From has no contract, so `?` would not say which fault it makes.
+// Both are written by hand: a derived From has no contract, so `?` would not say which fault it makes.
 impl From<WordFault> for DossierFault {
     ghost from_gives = { λ x y. y ≡ OfInput x };
 

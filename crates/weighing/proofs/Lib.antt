@@ -1,4 +1,3 @@
-pub mod Ranges
 pub mod Firsts
 pub mod Reading
 pub mod Conditions

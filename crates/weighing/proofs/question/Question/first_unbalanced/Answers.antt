@@ -2,7 +2,7 @@ use Rattle.std.proofs.Common.{not, eqb, refl, rules, tests}
 use Rattle.plant.specs.Net.{turned}
 use Rattle.paper.specs.OfTotals.{totals_said}
 use Rattle.weighing.specs.Judgement.{balance_side}
-use Rattle.weighing.proofs.Ranges.{find_over}
+use Rattle.starting.proofs.Ranges.{find_over}
 use Rattle.weighing.proofs.question.Question.first_unbalanced.Goals as goal
 
 pub returns : goal.returns
