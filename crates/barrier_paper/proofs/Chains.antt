@@ -1,5 +1,5 @@
 -- What the words of a paper give in a chain of iterators.
-use Rattle.std.proofs.Common.{◌≡◌, ℕ, zero, suc, ◌+◌, ◌-◌, ◌*◌, ◌/◌, ◌^◌, ◌<◌, ◌≤◌, Bool, true, false, cond, ◌||◌, not, eqb, ltb, List, [], ◌∷◌, filter, length, take, drop, Some, None, Option, slice_get, sym, refl, ap, ◌∙◌, ⊎_elim, one-add, zero-add, add-zero, arith}
+use Rattle.std.proofs.Common.{◌≡◌, ℕ, zero, suc, ◌+◌, ◌-◌, ◌*◌, ◌/◌, ◌^◌, ◌<◌, ◌≤◌, Bool, true, false, cond, ◌||◌, not, eqb, ltb, List, [], ◌∷◌, filter, length, take, drop, Some, None, Option, slice_get, sym, refl, ap, subst, ◌∙◌, ⊎_elim, one-add, zero-add, add-zero, arith}
 use Rattle.std.specs.Iterator.{YieldsFirst}
 use Rattle.std.specs.List.{position_or_len}
 use Rattle.std.specs.Option.{unwrap_or}
@@ -26,6 +26,10 @@ pub countable : (s r : Reader) (bs : List ℕ) → s ≡ r → r.at ≡ 0 → r.
 countable s r bs e a b small =
     let n : length (to_come s) ≡ length (words bs) = ap length (ap to_come e ∙ all_to_come r bs a b) ∙ length_placed 0 (words bs) in
     omega (arith, length_words bs)
+
+-- what is so at a number that is known
+pub known : {P : ℕ → Type 0} {k : ℕ} → (x : ℕ) × (x ≡ k) × P x → P k
+known {P} h = subst P h.1 h.2
 
 -- the words of a kind, by its number
 abbrev pub of_kind : ℕ → Word → Bool

@@ -63,6 +63,6 @@ impl<'a> BarrierPaper<'a> {
     pub fn steps_at(&self) -> usize
         ensures { result ≡ length (spec.before_steps (words self.now.bytes.now)) }
     {
-        count_before(self.bytes, Kind::Step)
+        count_before(self.bytes, Kind::Step.into())
     }
 }

@@ -41,7 +41,7 @@ fn key_of(kind: Kind, valve: usize, tank: usize) -> u32
     requires { (valve < most_valves) × (tank < most_tanks) }
     ensures { result ≡ (number_of kind * 64 + valve) * 64 + tank }
 {
-    (kind as u32 * 64 + valve as u32) * 64 + tank as u32
+    (u32::from(kind) * 64 + valve as u32) * 64 + tank as u32
 }
 
 impl<'a> PaperPlant<'a> {

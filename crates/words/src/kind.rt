@@ -1,5 +1,6 @@
 // What a word is.
-ghost use Rattle.words.specs.Kinds.{Names};
+ghost use Rattle.std.specs.Prelude.{◌≡◌};
+ghost use Rattle.words.specs.Kinds.{Names, number_of};
 
 // The numbers of the kinds are those of specs/Kinds.antt.
 #[derive(Clone, Copy, Debug, PartialEq, Eq)]
@@ -28,6 +29,14 @@ pub enum Kind {
 // A number that names no kind.
 #[derive(Clone, Copy, Debug, PartialEq, Eq)]
 pub struct UnknownKind(pub u32);
+
+impl From<Kind> for u32 {
+    ghost from_gives = { λ kind number. number ≡ number_of kind };
+
+    fn from(kind: Kind) -> u32 {
+        kind as u32
+    }
+}
 
 impl TryFrom<u32> for Kind {
     type Error = UnknownKind;

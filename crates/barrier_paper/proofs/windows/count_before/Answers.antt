@@ -1,6 +1,5 @@
 use Rattle.std.proofs.Common.{inl, ◌∙◌, refl, rules, tests}
 use Rattle.std.proofs.lemmas.Iterator.Search.{position_from_yields_List}
-use Rattle.words.specs.Kinds.{number_of}
 use Rattle.barrier_paper.proofs.Named.{named_is}
 use Rattle.barrier_paper.proofs.Chains.{all_given, countable, ends, place_or_end}
 use Rattle.barrier_paper.proofs.windows.count_before.Goals as goal
@@ -11,7 +10,7 @@ position-requires-clause-fits c =
 
 pub returns : goal.returns
 returns c =
-    let k = number_of c.args.kind in
+    let k = c.args.number in
     let all = all_given c.new.result c.args.bytes.now c.new.ensures.at c.new.ensures.bytes in
     c.unwrap_or.ensures
     ∙ place_or_end k c.args.bytes.now c.position.result (position_from_yields_List (ends k) c.position.new.self _ c.position.result c.position.ensures.ran all (λ w b q h. search (rules, tests, named_is)))

@@ -10,6 +10,8 @@ use Rattle.barrier_paper.specs.Document.{barrier_document}
 use Rattle.barrier_paper.specs.Form.{start, barrier_step, barrier_read}
 use Rattle.barrier_paper.proofs.Counting.{cases_counted}
 use Rattle.barrier_paper.proofs.BarrierExact.{barrier_papers_are_exact}
+use Rattle.barrier_paper.specs.Windows.{count_kind}
+use Rattle.barrier_paper.proofs.Chains.{known}
 use Rattle.barrier_paper.proofs.barrier_paper.BarrierPaper.read.Goals as goal
 use Rattle.barrier_paper.proofs.barrier_paper.BarrierPaper.read.Goals.{In_ok-form}
 
@@ -34,6 +36,6 @@ invariant_of-result c =
     record {
       some = omega (arith, count.fours, count.some);
       few = omega (arith, count.fours, count.few);
-      counted = c.count_kind-cases.ensures ∙ cases_counted (words bs);
+      counted = known {P = λ k. c.count_kind-cases.result ≡ count_kind k (words bs)} c.count_kind-cases.ensures ∙ cases_counted (words bs);
       written = (barrier_papers_are_exact.read_is_written tanks valves bs small _ read).1;
     }
