@@ -59,7 +59,7 @@ way_says : (y : Way) → cond (eqb (way_bit y) 1) backward forward ≡ y
 way_says forward = refl
 way_says backward = refl
 
-way_back : (b : ℕ) → b < 2 → way_bit (cond (eqb b 1) backward forward) ≡ b
+pub way_back : (b : ℕ) → b < 2 → way_bit (cond (eqb b 1) backward forward) ≡ b
 way_back b h = grind (arith, nat_tests)
 
 -- ---- weights

@@ -26,6 +26,7 @@ impl From<Word> for StepWord {
 
     // What a step word says.
     fn from(word: Word) -> StepWord {
+        // one bit, so no kind of its own that could be unknown
         let way = if word.field(27, 1) == 1 {
             Way::Backward
         } else {

@@ -12,6 +12,7 @@ use Rattle.barriers.specs.Steps.{forward, backward, Step, no_match}
 use Rattle.starting.specs.Starting.{first_below}
 use Rattle.starting.proofs.Firsts.{some_first}
 use Rattle.barrier_paper.specs.Document.{BarrierDocument, StepFits, MatchFits, barrier_of, lines_in, way_bit, match_said, way_said, step_key}
+use Rattle.barrier_paper.proofs.WordParts.{way_back}
 use Rattle.barrier_paper.proofs.Parts.{cases_kept, lines_kept}
 use Rattle.barrier_rule.specs.declared.faults.BarrierFault.{BarrierFault}
 use Rattle.barrier_rule.specs.declared.faults.BarrierFault.TheVariants.{Missing, BadMatch}
@@ -21,13 +22,10 @@ use Rattle.lines.specs.declared.line.LineWeights.{LineWeights}
 use Rattle.barrier_weighing.specs.OfCases.{case_meant, barrier_meant}
 use Rattle.barrier_weighing.specs.OfMatches.{whole_step}
 
-bit_is : (b : ℕ) → b < 2 → way_bit (cond (eqb b 1) backward forward) ≡ b
-bit_is b h = grind (arith, nat_tests)
-
 -- the place of a step is the field of its word that has its direction, case and valve
 pub key_is : (w : ℕ) (ws : List ℕ) → field w 17 11 ≡ step_key (whole_step w ws)
 key_is w ws =
-    let b : way_bit (way_said w) ≡ field w 27 1 = bit_is (field w 27 1) (omega arith) in
+    let b : way_bit (way_said w) ≡ field w 27 1 = way_back (field w 27 1) (omega arith) in
     omega (arith, b)
 
 module _ (x : ArrayVec (ArrayVec LineWeights)) (d : BarrierDocument) (meant : barrier_meant x ≡ barrier_of d) {j i : ℕ} (is : j ≡ i) (h : i < length d.cases) where

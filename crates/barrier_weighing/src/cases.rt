@@ -21,7 +21,7 @@ pub type CaseLines = ArrayVec<LineWeights, MOST_LINES>;
 // The cases of a paper.
 pub type Cases = ArrayVec<CaseLines, MOST_CASES>;
 
-// The lines that the words of a case say. A line is asked for by its number.
+// The lines that the words of a case say. A `for` with `push`: `collect` asks for memory, and `extend` can fail.
 fn case_lines(case: &[u8]) -> CaseLines
     ensures { case_meant result ≡ case_said (words case.now) }
 {
@@ -32,7 +32,7 @@ fn case_lines(case: &[u8]) -> CaseLines
     lines
 }
 
-// The cases of a paper that is well formed. A case is asked for by its number.
+// The cases of a paper that is well formed, read in the same way.
 pub fn cases_of(paper: &BarrierPaper) -> Cases
     ensures { (tanks valves : ℕ) → BarrierFormed tanks valves (barrier_said paper.now) → barrier_meant result ≡ barrier_of (barrier_said paper.now) }
 {

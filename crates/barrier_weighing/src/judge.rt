@@ -116,7 +116,8 @@ impl<'a, P: Plant> Judge<'a, P> {
         let mut next = 0;
         let mut place = self.paper.steps_at();
         let mut rest = self.paper.steps();
-        // A step's matches are taken as one part, as many words as the case reached has lines.
+        // A step's matches are taken as one part, as many words as the case reached has lines. A reader would
+        // take them word by word, and they are weighed against lines.
         while let Some(word) = word_at(rest, 0) {
             let due = self.cases[StepWord::from(word).to].len();
             let (matches, others) = rest[4..].split_at(4 * due);

@@ -17,7 +17,8 @@ use Rattle.dossier.specs.Kinds.{OpensOtherwise}
 use Rattle.dossier.specs.Fillings.{fill_read}
 use Rattle.dossier.specs.Written.{Fillable, Writable, fill_words, fill_paper, dossier_paper, AWrittenDossierIsWeighed}
 use Rattle.dossier.proofs.Cutting.{Stops}
-use Rattle.dossier.proofs.Writing.{IsCutOff, cut_off, length_bytes, words_before, goes_before, goes_with, stops_otherwise, plant_small, plant_kinds, fill_small, fill_kinds, fill_back}
+use Rattle.paper.proofs.Steps.{length_bytes}
+use Rattle.dossier.proofs.Writing.{IsCutOff, cut_off, words_before, goes_before, goes_with, stops_otherwise, plant_small, plant_kinds, fill_small, fill_kinds, fill_back}
 use Rattle.dossier.proofs.Judged.{weighed}
 
 -- a filling that is read from its own paper

@@ -10,12 +10,12 @@ use Rattle.paper.specs.Arcs.{PlantDocument, plant_of, plant_document}
 use Rattle.words.specs.declared.faults.PaperFault.{PaperFault}
 use Rattle.paper.specs.PlantForm.{plant_form, plant_read}
 use Rattle.paper.specs.Bounds.{paper_bounded}
-use Rattle.paper.proofs.Steps.{through}
+use Rattle.paper.proofs.Steps.{through, unraised}
 use Rattle.paper.proofs.Rises.{opened_read}
 use Rattle.weighing.specs.declared.faults.Verdict.{Verdict}
 use Rattle.weighing.specs.declared.faults.Verdict.TheVariants.{Joined}
 use Rattle.weighing.specs.Weighing.{weighs}
-use Rattle.weighing.proofs.Accepting.{raised_ok, only_accepted, accepted_walk}
+use Rattle.weighing.proofs.Accepting.{only_accepted, accepted_walk}
 use Rattle.dossier.specs.declared.faults.DossierFault.{DossierFault}
 use Rattle.dossier.specs.Line.{line_of}
 use Rattle.dossier.specs.declared.faults.DossierFault.TheVariants.{Input, Plant, Source, Target, Weighing}
@@ -47,17 +47,17 @@ module _ (bs : List ℕ) (small : Bytes bs) where
       let two = through (raised Plant (plant_read (plant_part bs))) _ _ one.2 in
       let three = through (raised Source (fill_read 0 (words (source_part bs)))) _ _ two.2 in
       let four = through (raised Target (fill_read 0 (words (target_part bs)))) _ _ three.2 in
-      let plant_is = raised_ok Plant (plant_read (plant_part bs)) two.0 two.1 in
+      let plant_is = unraised Plant (plant_read (plant_part bs)) two.0 two.1 in
       let bounded = read_bounded (plant_part bs) two.0 plant_is in
-      let joined = raised_ok Weighing (weighs (plant_of two.0) three.0 four.0 (evidence_part bs)) Joined four.2 in
+      let joined = unraised Weighing (weighs (plant_of two.0) three.0 four.0 (evidence_part bs)) Joined four.2 in
       record {
         asks = record {
           plant = two.0;
           source = three.0;
           target = four.0;
           plant_is = plant_is;
-          source_is = raised_ok Source (fill_read 0 (words (source_part bs))) three.0 three.1;
-          target_is = raised_ok Target (fill_read 0 (words (target_part bs))) four.0 four.1;
+          source_is = unraised Source (fill_read 0 (words (source_part bs))) three.0 three.1;
+          target_is = unraised Target (fill_read 0 (words (target_part bs))) four.0 four.1;
         };
         walk = (accepted_walk (plant_of two.0) bounded three.0 four.0 (evidence_part bs) (only_accepted (plant_of two.0) bounded three.0 four.0 (evidence_part bs) evidence_small joined)).walk;
       }

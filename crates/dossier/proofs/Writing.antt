@@ -7,19 +7,15 @@ use Rattle.std.proofs.lemmas.Bool.{eq-eqb, ne_eqb, not_from_false, cond-true, co
 use Rattle.plant.specs.Limits.{most_tanks, most_valves, most_weight}
 use Rattle.words.specs.Words.{words, bytes, word, kind, field}
 use Rattle.words.specs.Inverse.{Words}
+use Rattle.words.proofs.Inverses.{again}
+use Rattle.paper.proofs.Steps.{length_bytes}
+use Rattle.paper.proofs.PlantExact.{kind_low}
 use Rattle.paper.specs.Arcs.{Arc, PlantDocument, PlantFormed, ArcFits, arc_kind, arc_word, plant_words}
 use Rattle.dossier.specs.Parts.{before, of_kind, run_of, after}
 use Rattle.dossier.specs.Kinds.{OpensOtherwise}
 use Rattle.dossier.specs.Fillings.{amount_read, fill_read}
 use Rattle.dossier.specs.Written.{fill_word, fill_words}
 use Rattle.dossier.proofs.Cutting.{Stops}
-
-pub length_bytes : (ws : List ℕ) → length (bytes ws) ≡ 4 * length ws
-length_bytes [] = refl
-length_bytes (w ∷ ws) = omega (arith, length_bytes ws)
-
-again : (w : ℕ) → w < 2 ^ 32 → word (w / 16777216) (w / 65536 % 256) (w / 256 % 256) (w % 256) ≡ w
-again w h = omega arith
 
 -- words that are written before other bytes
 pub words_before : (ws bs : List ℕ) → Words ws → words (bytes ws ++ bs) ≡ ws ++ words bs
@@ -63,10 +59,6 @@ plain_head t v ht hv = (omega arith, omega arith)
 plain_arc : (k v t x : ℕ) → k ≤ 3 → v < 64 → t < 64 → x ≤ most_weight → Plain (k * 2 ^ 28 + v * 2 ^ 22 + t * 2 ^ 16 + x)
 plain_arc k v t x hk hv ht hx = (omega arith, omega arith)
 
-low : (g : Bool) → arc_kind g ≤ 3
-low true = omega arith
-low false = omega arith
-
 pub plain_plant : (d : PlantDocument) → PlantFormed d → AllByRecursion Plain (plant_words d)
 plain_plant d f = (
   plain_head d.tanks d.valves f.few_tanks f.few_valves,
@@ -74,7 +66,7 @@ plain_plant d f = (
 )
   where
     arc : (a : Arc) → ArcFits d.tanks d.valves a → Plain (arc_word a)
-    arc a h = plain_arc (arc_kind a.gives) a.valve a.tank a.weight (low a.gives) (omega (arith, h.valve_there, f.few_valves)) (omega (arith, h.tank_there, f.few_tanks)) h.few
+    arc a h = plain_arc (arc_kind a.gives) a.valve a.tank a.weight (kind_low a.gives) (omega (arith, h.valve_there, f.few_valves)) (omega (arith, h.tank_there, f.few_tanks)) h.few
 
 pub plant_small : (d : PlantDocument) → PlantFormed d → Words (plant_words d)
 plant_small d f = All-weaker Plain (λ w. w < 2 ^ 32) (λ w h. h.0) (plant_words d) (plain_plant d f)

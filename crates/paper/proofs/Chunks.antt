@@ -1,7 +1,7 @@
 -- The words of bytes, and the bytes four at a time.
 use Rattle.std.proofs.Common.{◌≡◌, ℕ, zero, suc, ◌/◌, ◌^◌, ◌<◌, ◌≤◌, List, [], ◌∷◌, map, length, get_or, ltb, true, false, le_refl, ⊎_elim, refl, ap, ◌∙◌, arith}
 use Rattle.std.specs.List.Sorted.{IsNonDecreasingBy, IsPartitionPoint}
-use Rattle.std.proofs.lemmas.List.{length-map}
+use Rattle.std.proofs.lemmas.List.{length-map, get_or-map}
 use Rattle.std.proofs.lemmas.Bool.{cases_eq, ltb-true, ltb-false}
 use Rattle.std.specs.Simd.{first_chunks}
 use Rattle.words.specs.Words.{words, word}
@@ -26,11 +26,6 @@ chunked (suc k) (a ∷ b ∷ c ∷ d ∷ rest) e = ap (λ ws. word a b c d ∷ w
 pub words_chunks : (bs : List ℕ) → words bs ≡ map word_of (first_chunks 4 (length bs / 4) bs)
 words_chunks bs = chunked (length bs / 4) bs refl
 
-pub get_or_map : {X : Type 0} (f : X → ℕ) (xs : List X) (k : ℕ) (d : X) → k < length xs → get_or (map f xs) k 0 ≡ f (get_or xs k d)
-get_or_map f [] k d h = absurd (omega arith)
-get_or_map f (x ∷ xs) zero d h = refl
-get_or_map f (x ∷ xs) (suc k) d h = get_or_map f xs k d (omega arith)
-
 -- the number by which arcs rise, of an arc's four bytes
 abbrev pub key_of : List ℕ → ℕ
 key_of bs = word_of bs / 2 ^ 16
@@ -40,7 +35,7 @@ module _ (bs : List ℕ) where
   chunks = first_chunks 4 (length bs / 4) bs
 
   key_at : (k : ℕ) (d : List ℕ) → k < length chunks → get_or (words bs) k 0 / 2 ^ 16 ≡ key_of (get_or chunks k d)
-  key_at k d h = ap (λ w. w / 2 ^ 16) (ap (λ ws. get_or ws k 0) (words_chunks bs) ∙ get_or_map word_of chunks k d h)
+  key_at k d h = ap (λ w. w / 2 ^ 16) (ap (λ ws. get_or ws k 0) (words_chunks bs) ∙ get_or-map word_of chunks k d 0 h)
 
   length_chunks : length (words bs) ≡ length chunks
   length_chunks = ap length (words_chunks bs) ∙ length-map chunks word_of

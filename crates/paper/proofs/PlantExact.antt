@@ -46,7 +46,7 @@ taken_apart k w h p =
 key_of : (k w : ℕ) → k ≡ kind w → w / 2 ^ 16 ≡ (k * 64 + field w 22 6) * 64 + field w 16 6
 key_of k w h = omega arith
 
-kind_low : (g : Bool) → arc_kind g ≤ 3
+pub kind_low : (g : Bool) → arc_kind g ≤ 3
 kind_low true = omega arith
 kind_low false = omega arith
 

@@ -7,7 +7,7 @@ use Rattle.words.specs.declared.word.Word.{Word}
 use Rattle.words.specs.Words.{kind, field, first}
 use Rattle.words.specs.Placed.{word_at}
 use Rattle.words.proofs.Laws.{read_some, read_none}
-use Rattle.words.proofs.Options.{option_filter}
+use Rattle.std.proofs.lemmas.Map.Entries.{option_filter}
 use Rattle.paper.specs.Arcs.{arc_kind, arc_of, sits, weight_in}
 use Rattle.paper.specs.Plants.{Rises, Sided, find_arc}
 

@@ -15,12 +15,12 @@ pub through : {A B E : Type 0} (r : Result A E) (f : A → Result B E) (x : B) �
 through (Ok a) f x p = (a, refl, p)
 through (Err e) f x p = absurd (let z : ◌≡◌ {A = ℕ} 0 1 = cc in omega arith)
 
-unraised : {A E F : Type 0} (up : E → F) (r : Result A E) (x : A) → raised up r ≡ Ok x → r ≡ Ok x
+pub unraised : {A E F : Type 0} (up : E → F) (r : Result A E) (x : A) → raised up r ≡ Ok x → r ≡ Ok x
 unraised up (Ok a) x p = cc
 unraised up (Err e) x p = absurd (let z : ◌≡◌ {A = ℕ} 0 1 = cc in omega arith)
 
 -- four bytes to a word, none left over
-length_bytes : (ws : List ℕ) → length (bytes ws) ≡ 4 * length ws
+pub length_bytes : (ws : List ℕ) → length (bytes ws) ≡ 4 * length ws
 length_bytes [] = refl
 length_bytes (w ∷ ws) = omega (arith, length_bytes ws)
 

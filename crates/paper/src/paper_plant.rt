@@ -113,7 +113,7 @@ impl Plant for PaperPlant<'_> {
         valve < self.counts.valves
     }
 
-    // Two questions of the trait, alike but for the kind of arc.
+    // Two questions of the trait, alike but for the kind of arc; valve and tank are the trait's parameters, here and above.
     fn intake(&self, valve: usize, tank: usize) -> u16 {
         self.weight(Kind::Intake, valve, tank)
     }

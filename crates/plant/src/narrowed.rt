@@ -28,6 +28,7 @@ impl<P: Plant> Plant for Narrowed<P> {
         self.below.is_open(valve) && !self.shut.get(valve).is_some_and(|&shut| shut)
     }
 
+    // Two questions of the trait, alike but for the side they ask.
     fn intake(&self, valve: usize, tank: usize) -> u16 {
         self.below.intake(valve, tank)
     }

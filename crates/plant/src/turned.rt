@@ -22,6 +22,7 @@ impl<P: Plant> Plant for Turned<P> {
         self.below.is_open(valve)
     }
 
+    // Two questions of the trait, alike but for the side they ask.
     fn intake(&self, valve: usize, tank: usize) -> u16 {
         self.below.outlet(valve, tank)
     }

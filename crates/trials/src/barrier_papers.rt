@@ -1,5 +1,5 @@
 // What is read of barrier papers: the number and the place of the first fault, and the parts of a paper that has none.
-use crate::sheets::{Trial, put, refusal_of, written};
+use crate::sheets::{Trial, named, put, refusal_of, tried, unnamed, written};
 use barrier_paper::BarrierPaper;
 use barrier_paper::step_words::{MatchWord, StepWord};
 use barrier_paper::weights::line_weights;
@@ -9,23 +9,16 @@ use plant::Counts;
 use std::alloc::{AllocError, Global};
 use std::process::Abort;
 use std::test::Fail;
-use words::{Kind, PaperFault, Part, Refusal, Word};
+use words::{Kind, PaperFault, Part, Word};
 
 // The number and the place of the refusal that a barrier paper meets on a plant with so many tanks and valves, if it meets one.
 fn met(bytes: &[u8], tanks: usize, valves: usize) -> Option<(u32, usize)> {
     refusal_of(BarrierPaper::read(bytes, Counts { tanks, valves }))
 }
 
-// Tries each list of words after a head, on a plant with two tanks and two valves.
-fn tried(rt: &impl Abort, heap: Global, head: &[u32], trials: &[Trial]) -> Result<(), Fail> {
-    for trial in trials {
-        let mut bytes = written(heap, head)?;
-        for word in trial.words {
-            put(&mut bytes, *word)?;
-        }
-        assert_eq!(rt; met(&bytes, 2, 2), trial.refused);
-    }
-    Ok(())
+// On a plant with two tanks and two valves.
+fn on_two(rt: &impl Abort, heap: Global, head: &[u32], trials: &[Trial]) -> Result<(), Fail> {
+    tried(rt, heap, head, trials, |bytes: &[u8]| met(bytes, 2, 2))
 }
 
 // A word, and so many times another.
@@ -353,17 +346,17 @@ static MATCHES: [Trial; 12] = [
 
 #[test]
 fn cases_of_barriers(rt: HostRuntime) -> Result<(), Fail> {
-    tried(&rt, rt.alloc(), &[], &CASES)
+    on_two(&rt, rt.alloc(), &[], &CASES)
 }
 
 #[test]
 fn weights_of_lines(rt: HostRuntime) -> Result<(), Fail> {
-    tried(&rt, rt.alloc(), &[0x6000_0000, 0x7000_0000], &WEIGHTS)
+    on_two(&rt, rt.alloc(), &[0x6000_0000, 0x7000_0000], &WEIGHTS)
 }
 
 #[test]
 fn steps_of_barriers(rt: HostRuntime) -> Result<(), Fail> {
-    tried(
+    on_two(
         &rt,
         rt.alloc(),
         &[0x6000_0000, 0x7000_0000, 0x6000_0000],
@@ -374,7 +367,7 @@ fn steps_of_barriers(rt: HostRuntime) -> Result<(), Fail> {
 // A table, and so a test, of its own.
 #[test]
 fn matches_of_steps(rt: HostRuntime) -> Result<(), Fail> {
-    tried(
+    on_two(
         &rt,
         rt.alloc(),
         &[0x6000_0000, 0x7000_0000, 0x6000_0000],
@@ -391,26 +384,24 @@ static BITS: [(usize, u32, u32); 5] = [
     (4, 0, 13),
 ];
 
-// Each unnamed bit alone is refused, in a case, a line, a left weight, a right weight and a step.
+// In a case, a line, a left weight, a right weight and a step.
 #[test]
 fn unnamed_bits_of_barriers(rt: HostRuntime) -> Result<(), Fail> {
-    for (place, low, high) in BITS {
-        for bit in low..high {
-            let mut words = [
-                0x6000_0000,
-                0x7000_0000,
-                0x8000_0001,
-                0x9000_0001,
-                0xa000_0000,
-                0xb000_0000,
-            ];
-            assert!(rt; place < 5 && bit < 32);
-            words[place] |= 1 << bit;
-            let bytes = written(rt.alloc(), &words)?;
-            assert_eq!(rt; met(&bytes, 1, 1), Some((6, place)));
-        }
-    }
-    Ok(())
+    let words = [
+        0x6000_0000,
+        0x7000_0000,
+        0x8000_0001,
+        0x9000_0001,
+        0xa000_0000,
+        0xb000_0000,
+    ];
+    unnamed(
+        &rt,
+        rt.alloc(),
+        words,
+        &BITS,
+        |bytes: &[u8]| met(bytes, 1, 1),
+    )
 }
 
 // At most 16 cases, and at most 16 lines to each, the last of which can be named. The first of the lines too many is in the first case.
@@ -579,12 +570,11 @@ fn what_steps_say(rt: HostRuntime) {
 // Matches that are still due, and one case or line too many, are faults of the paper.
 #[test]
 fn refusals_of_barriers(rt: HostRuntime) {
-    for (fault, number, place) in [(PaperFault::Due(9), 5, 9), (PaperFault::Count(16), 9, 16)] {
-        let refusal = Refusal {
-            number,
-            place,
-            part: Part::Paper,
-        };
-        assert_eq!(rt; Refusal::from(fault), refusal);
-    }
+    named(
+        &rt,
+        &[
+            (PaperFault::Due(9), 5, 9, Part::Paper),
+            (PaperFault::Count(16), 9, 16, Part::Paper),
+        ],
+    );
 }

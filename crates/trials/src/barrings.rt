@@ -1,5 +1,5 @@
 // What weighings of barrier papers answer: the number and the place of the first fault, or that the paper parts the fillings.
-use crate::sheets::{MIXER, Trial, put, refusal_of, written};
+use crate::sheets::{MIXER, Trial, named, put, refusal_of, written};
 use barrier_rule::BarrierFault;
 use barrier_weighing::weigh_barrier;
 use lines::Amounts;
@@ -9,7 +9,7 @@ use plant::{Narrowed, Plant, RingMain, Turned};
 use std::alloc::{AllocError, Global};
 use std::test::Fail;
 use weighing::weigh::weigh;
-use words::{Part, Refusal};
+use words::Part;
 
 // The number and the place of the refusal that a weighing meets, if it meets one.
 fn met<P: Plant>(
@@ -791,18 +791,14 @@ fn all_places(rt: HostRuntime) -> Result<(), Fail> {
 // The number and the place of each fault; the part is the weighing.
 #[test]
 fn faults_of_barriers(rt: HostRuntime) {
-    for (fault, number, place) in [
-        (BarrierFault::FailsSource, 16, 0),
-        (BarrierFault::FailsTarget, 17, 0),
-        (BarrierFault::HoldsAcross, 18, 0),
-        (BarrierFault::Missing(2047), 19, 2047),
-        (BarrierFault::BadMatch(8191), 20, 8191),
-    ] {
-        let refusal = Refusal {
-            number,
-            place,
-            part: Part::Weighing,
-        };
-        assert_eq!(rt; Refusal::from(fault), refusal);
-    }
+    named(
+        &rt,
+        &[
+            (BarrierFault::FailsSource, 16, 0, Part::Weighing),
+            (BarrierFault::FailsTarget, 17, 0, Part::Weighing),
+            (BarrierFault::HoldsAcross, 18, 0, Part::Weighing),
+            (BarrierFault::Missing(2047), 19, 2047, Part::Weighing),
+            (BarrierFault::BadMatch(8191), 20, 8191, Part::Weighing),
+        ],
+    );
 }

@@ -1,9 +1,9 @@
 // What is read of papers: the number and the place of the first fault.
-use crate::sheets::{Trial, refusal_of, written, written_out};
+use crate::sheets::{Trial, named, refusal_of, tried, unnamed, written, written_out};
 use paper::{Total, TotalsPaper, check_plant};
 use plant::Counts;
 use std::test::Fail;
-use words::{PaperFault, Part, Refusal, WordFault};
+use words::{PaperFault, Part, WordFault};
 
 static PLANTS: [Trial; 24] = [
     // 0, 1, 64 and 65 tanks and valves
@@ -190,20 +190,14 @@ static TOTALS: [Trial; 17] = [
 
 #[test]
 fn plant_papers(rt: HostRuntime) -> Result<(), Fail> {
-    for trial in PLANTS {
-        let bytes = written(rt.alloc(), trial.words)?;
-        assert_eq!(rt; refusal_of(check_plant(&bytes)), trial.refused);
-    }
-    Ok(())
+    let met = |bytes: &[u8]| refusal_of(check_plant(bytes));
+    tried(&rt, rt.alloc(), &[], &PLANTS, met)
 }
 
 #[test]
 fn totals_papers(rt: HostRuntime) -> Result<(), Fail> {
-    for trial in TOTALS {
-        let bytes = written(rt.alloc(), trial.words)?;
-        assert_eq!(rt; refusal_of(TotalsPaper::read(&bytes, 2)), trial.refused);
-    }
-    Ok(())
+    let met = |bytes: &[u8]| refusal_of(TotalsPaper::read(bytes, 2));
+    tried(&rt, rt.alloc(), &[], &TOTALS, met)
 }
 
 // The place of a word, and its unnamed bits: from the lowest to before the highest.
@@ -211,34 +205,20 @@ static PLANT_BITS: [(usize, u32, u32); 3] = [(0, 14, 28), (1, 10, 16), (2, 10, 1
 
 static TOTALS_BITS: [(usize, u32, u32); 2] = [(0, 20, 28), (1, 20, 22)];
 
-// Each unnamed bit alone is refused, in a head, an intake arc and an outlet arc.
+// In a head, an intake arc and an outlet arc.
 #[test]
 fn unnamed_bits_of_plants(rt: HostRuntime) -> Result<(), Fail> {
-    for (place, low, high) in PLANT_BITS {
-        for bit in low..high {
-            let mut words = [0x1000_0081, 0x2000_0001, 0x3000_0001];
-            assert!(rt; place < 3 && bit < 32);
-            words[place] |= 1 << bit;
-            let bytes = written(rt.alloc(), &words)?;
-            assert_eq!(rt; refusal_of(check_plant(&bytes)), Some((6, place)));
-        }
-    }
-    Ok(())
+    let words = [0x1000_0081, 0x2000_0001, 0x3000_0001];
+    let met = |bytes: &[u8]| refusal_of(check_plant(bytes));
+    unnamed(&rt, rt.alloc(), words, &PLANT_BITS, met)
 }
 
-// The same in a totals head and a total.
+// In a totals head and a total.
 #[test]
 fn unnamed_bits_of_totals(rt: HostRuntime) -> Result<(), Fail> {
-    for (place, low, high) in TOTALS_BITS {
-        for bit in low..high {
-            let mut words = [0x4000_0001, 0x5000_0001];
-            assert!(rt; place < 2 && bit < 32);
-            words[place] |= 1 << bit;
-            let bytes = written(rt.alloc(), &words)?;
-            assert_eq!(rt; refusal_of(TotalsPaper::read(&bytes, 1)), Some((6, place)));
-        }
-    }
-    Ok(())
+    let words = [0x4000_0001, 0x5000_0001];
+    let met = |bytes: &[u8]| refusal_of(TotalsPaper::read(bytes, 1));
+    unnamed(&rt, rt.alloc(), words, &TOTALS_BITS, met)
 }
 
 // No bytes are no paper, and a paper of broken words is refused at the number of its whole words.
@@ -311,20 +291,16 @@ fn what_is_read(rt: HostRuntime) -> Result<(), Fail> {
 // The number, the place and the part of each fault.
 #[test]
 fn refusals_of_papers(rt: HostRuntime) {
-    for (fault, number, place, part) in [
-        (PaperFault::Words(WordFault::Ragged(5)), 1, 5, Part::Words),
-        (PaperFault::Words(WordFault::Empty), 2, 0, Part::Words),
-        (PaperFault::Words(WordFault::Long(9)), 3, 9, Part::Words),
-        (PaperFault::Kind(3), 4, 3, Part::Paper),
-        (PaperFault::Unnamed(0), 6, 0, Part::Paper),
-        (PaperFault::Limit(1), 7, 1, Part::Paper),
-        (PaperFault::Order(2), 8, 2, Part::Paper),
-    ] {
-        let refusal = Refusal {
-            number,
-            place,
-            part,
-        };
-        assert_eq!(rt; Refusal::from(fault), refusal);
-    }
+    named(
+        &rt,
+        &[
+            (PaperFault::Words(WordFault::Ragged(5)), 1, 5, Part::Words),
+            (PaperFault::Words(WordFault::Empty), 2, 0, Part::Words),
+            (PaperFault::Words(WordFault::Long(9)), 3, 9, Part::Words),
+            (PaperFault::Kind(3), 4, 3, Part::Paper),
+            (PaperFault::Unnamed(0), 6, 0, Part::Paper),
+            (PaperFault::Limit(1), 7, 1, Part::Paper),
+            (PaperFault::Order(2), 8, 2, Part::Paper),
+        ],
+    );
 }

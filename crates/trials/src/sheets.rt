@@ -1,6 +1,8 @@
 // Papers for the trials, written word by word.
 use std::alloc::{AllocError, Global};
-use words::Refusal;
+use std::process::Abort;
+use std::test::Fail;
+use words::{Part, Refusal};
 
 // A paper, and the number and the place of the refusal that it meets, if it meets one.
 #[derive(Clone, Copy)]
@@ -41,7 +43,8 @@ pub fn put(bytes: &mut Vec<u8>, word: u32) -> Result<(), AllocError> {
     Ok(())
 }
 
-// The words as bytes.
+// The words as bytes. Here and in other trials the heap and the words, and source and target, are what a trial lists one by one,
+// and so parameters of their own.
 pub fn written(heap: Global, words: &[u32]) -> Result<Vec<u8>, AllocError> {
     let mut bytes = Vec::new(heap);
     for word in words {
@@ -50,7 +53,6 @@ pub fn written(heap: Global, words: &[u32]) -> Result<Vec<u8>, AllocError> {
     Ok(bytes)
 }
 
-// Here and in other trials the heap and the words, and source and target, are what a trial lists, one by one.
 // A head and so many words after it: the first of them, and each next one greater by the step.
 pub fn written_out(
     heap: Global,
@@ -66,4 +68,61 @@ pub fn written_out(
         word = word.wrapping_add(step);
     }
     Ok(bytes)
+}
+
+// Tries each list of words after a head, read by `met`.
+pub fn tried<F: Fn(&[u8]) -> Option<(u32, usize)>>(
+    rt: &impl Abort,
+    heap: Global,
+    head: &[u32],
+    trials: &[Trial],
+    met: F,
+) -> Result<(), Fail>
+    requires { F.IsAlwaysCallable met }
+{
+    for trial in trials {
+        let mut bytes = written(heap, head)?;
+        for word in trial.words {
+            put(&mut bytes, *word)?;
+        }
+        assert_eq!(rt; met(&bytes), trial.refused);
+    }
+    Ok(())
+}
+
+// Each unnamed bit alone is refused at its word: the place of a word, and its unnamed bits from the lowest to before the highest.
+pub fn unnamed<F: Fn(&[u8]) -> Option<(u32, usize)>, const N: usize>(
+    rt: &impl Abort,
+    heap: Global,
+    words: [u32; N],
+    bits: &[(usize, u32, u32)],
+    met: F,
+) -> Result<(), Fail>
+    requires { F.IsAlwaysCallable met }
+{
+    for &(place, low, high) in bits {
+        for bit in low..high {
+            let mut changed = words;
+            assert!(rt; place < N && bit < 32);
+            changed[place] |= 1 << bit;
+            let bytes = written(heap, &changed)?;
+            assert_eq!(rt; met(&bytes), Some((6, place)));
+        }
+    }
+    Ok(())
+}
+
+// The number, the place and the part of each fault.
+pub fn named<F: Copy>(rt: &impl Abort, faults: &[(F, u32, usize, Part)])
+where
+    Refusal: From<F>,
+{
+    for &(fault, number, place, part) in faults {
+        let refusal = Refusal {
+            number,
+            place,
+            part,
+        };
+        assert_eq!(rt; Refusal::from(fault), refusal);
+    }
 }

@@ -15,7 +15,7 @@ use Rattle.words.specs.Faults.{raised}
 use Rattle.words.specs.Inverse.{Bytes}
 use Rattle.paper.specs.Totals.{TotalFits, TotalsFormed, totals_paper}
 use Rattle.paper.specs.TotalsForm.{totals_read}
-use Rattle.paper.proofs.Steps.{through}
+use Rattle.paper.proofs.Steps.{through, unraised}
 use Rattle.paper.proofs.TotalsExact.{formed_of_read, totals_papers_are_exact, tallied, rising_few}
 use Rattle.starting.proofs.Firsts.{first_none, none_first}
 use Rattle.weighing.specs.declared.faults.Verdict.TheVariants.{Joined}
@@ -58,25 +58,20 @@ asked_fillings tanks A B p =
 fillings_asked : (tanks : ℕ) (A B : List ℕ) → Filling tanks A → Filling tanks B → asked tanks A B ≡ Ok tt
 fillings_asked tanks A B a b = rw (eq-eqb (length A) tanks a.listed, eq-eqb (length B) tanks b.listed, small_none A a.small, small_none B b.small)
 
--- a fault of a lower part is none of the upper answer
-pub raised_ok : {X E F : Type 0} (up : E → F) (r : Result X E) (x : X) → raised up r ≡ Ok x → r ≡ Ok x
-raised_ok up (Ok y) x p = cc
-raised_ok up (Err e) x p = absurd (cc)
-
 module _ (N : Net) (b : Bounded N) (A B bs : List ℕ) where
   pub only_accepted : Bytes bs → weighs N A B bs ≡ Ok Joined → Accepted N A B bs
   only_accepted small p =
       let one = through (raised Question (asked N.tanks A B)) _ _ p in
       let two = through (raised Paper (totals_read N.valves bs)) _ _ one.2 in
-      let fillings = asked_fillings N.tanks A B (raised_ok Question (asked N.tanks A B) one.0 one.1) in
-      let read = formed_of_read N.valves bs two.0 (raised_ok Paper (totals_read N.valves bs) two.0 two.1) small in
+      let fillings = asked_fillings N.tanks A B (unraised Question (asked N.tanks A B) one.0 one.1) in
+      let read = formed_of_read N.valves bs two.0 (unraised Paper (totals_read N.valves bs) two.0 two.1) small in
       record {
         source = fillings.0;
         target = fillings.1;
         document = two.0;
         formed = read.0;
         written = read.1;
-        meets = joined_meets N b A B two.0 (raised_ok Totals (judged N A B two.0) Joined two.2);
+        meets = joined_meets N b A B two.0 (unraised Totals (judged N A B two.0) Joined two.2);
       }
 
   pub all_accepted : Accepted N A B bs → weighs N A B bs ≡ Ok Joined

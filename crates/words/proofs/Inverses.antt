@@ -4,7 +4,7 @@ use Rattle.words.specs.Words.{words, bytes, word}
 use Rattle.words.specs.Inverse.{Bytes, Words, WordsAndBytesAgree}
 
 -- a word from its own bytes
-again : (w : ℕ) → w < 2 ^ 32 → word (w / 16777216) (w / 65536 % 256) (w / 256 % 256) (w % 256) ≡ w
+pub again : (w : ℕ) → w < 2 ^ 32 → word (w / 16777216) (w / 65536 % 256) (w / 256 % 256) (w % 256) ≡ w
 again w h = omega arith
 
 pub words_of_bytes : (ws : List ℕ) → Words ws → words (bytes ws) ≡ ws

@@ -1,10 +1,7 @@
 -- What the library says of an Option's methods that call a closure, where each call gives the same function of the value.
 use Rattle.std.proofs.Common.{◌≡◌, Bool, true, false, cond, Some, None, Option, MatchOption, ◌∙◌, ap, refl}
 use Rattle.std.specs.Bool.{then_some}
-
-abbrev pub option_filter : {A : Type 0} → (A → Bool) → Option A → Option A
-option_filter test None = None
-option_filter test (Some x) = cond (test x) (Some x) None
+use Rattle.std.proofs.lemmas.Map.Entries.{option_filter}
 
 then_some_same : {A : Type 0} (b : Bool) (x : A) → then_some b x ≡ cond b (Some x) None
 then_some_same true x = refl

@@ -8,6 +8,6 @@ pub mod reader;
 pub mod word;
 
 pub use faults::{PaperFault, Part, Refusal, WordFault};
-pub use kind::Kind;
+pub use kind::{Kind, UnknownKind};
 pub use reader::Reader;
 pub use word::Word;

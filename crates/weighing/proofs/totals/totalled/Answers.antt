@@ -4,11 +4,9 @@ use Rattle.std.specs.List.{list_any}
 use Rattle.plant.specs.Firings.{named}
 use Rattle.words.specs.Left.{left, to_come}
 use Rattle.starting.specs.Starting.{marked}
+use Rattle.starting.proofs.Sweeps.{marked_none}
 use Rattle.weighing.proofs.Reading.{totals, valve_named}
 use Rattle.weighing.proofs.totals.totalled.Goals as goal
-
-mark_none : (n t : ℕ) → marked (replicate n false) t ≡ false
-mark_none n t = grind (arith, common_steps)
 
 pub loop-word-init : goal.loop-word-init
 loop-word-init c =
@@ -17,7 +15,7 @@ loop-word-init c =
       tt,
       refl,
       λ t.
-          ap (λ b. b || list_any (totals t) (to_come c.into_iter-word-iterator.result)) (mark_none 64 t)
+          ap (λ b. b || list_any (totals t) (to_come c.into_iter-word-iterator.result)) (marked_none 64 t)
           ∙ (ap (λ s. list_any (totals t) (to_come s)) c.into_iter-word-iterator.ensures.into_iter_gives
           ∙ (valve_named t r.at (left r) ∙ ap (λ fs. named fs t) c.totals-word-items.ensures.totals)),
     )

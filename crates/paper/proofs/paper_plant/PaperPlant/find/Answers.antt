@@ -1,7 +1,8 @@
 use Rattle.std.proofs.Common.{◌/◌, ◌^◌, eqb, ap, ◌∙◌, rules}
 use Rattle.std.specs.Option.{option_map}
 use Rattle.words.specs.Words.{words}
-use Rattle.words.proofs.Options.{option_filter, filtered}
+use Rattle.std.proofs.lemmas.Map.Entries.{option_filter}
+use Rattle.words.proofs.Options.{filtered}
 use Rattle.paper.proofs.Searching.{found}
 use Rattle.paper.proofs.paper_plant.PaperPlant.find.Goals as goal
 
