@@ -1,4 +1,4 @@
-use Rattle.std.proofs.Common.{rules, lit≤}
+use Rattle.std.proofs.Common.{arith, rules, lit≤}
 use Rattle.lines.proofs.Tabling.{tabulated, tabulated_small}
 use Rattle.lines.proofs.valve.ValveWeights.of_plant.Goals as goal
 
@@ -15,10 +15,11 @@ invariant_of-result-2 g c = record {
 }
 
 pub invariant_of-result-3 : goal.invariant_of-result-3
-invariant_of-result-3 g c = record {
-  read = record {
-    tanks = c.counts.ensures.tanks;
-    intake = tabulated _ c.from_fn.ensures.items (λ r x q k. search rules);
-    outlet = tabulated _ c.from_fn-2.ensures.items (λ r x q k. search rules);
-  };
+invariant_of-result-3 g c = record { few_tanks = omega (arith, c.counts.ensures.tanks, (g.P.Plant.bounded c.args.plant.now).few_tanks) }
+
+pub returns : goal.returns
+returns g c = record {
+  tanks = c.counts.ensures.tanks;
+  intake = tabulated _ c.from_fn.ensures.items (λ r x q k. search rules);
+  outlet = tabulated _ c.from_fn-2.ensures.items (λ r x q k. search rules);
 }
