@@ -8,9 +8,9 @@ use Rattle.barriers.specs.Tests.{good?}
 use Rattle.lines.specs.Tables.{Tabulates}
 use Rattle.lines.specs.declared.valve.ValveWeights.{ValveWeights}
 
--- the plant with this one valve, whose number is 0
+-- the plant with this one valve, whose number is 0; no other number is asked for
 abbrev pub valve_meant : ValveWeights → Net
-valve_meant x = record { tanks = x.tanks; valves = 1; opens = λ t. nat_lt t 1; intake = λ t. held x.intake.each; outlet = λ t. held x.outlet.each }
+valve_meant x = record { tanks = x.tanks; valves = 1; opens = λ t. nat_lt t 1; intake = λ _. held x.intake.each; outlet = λ _. held x.outlet.each }
 
 -- they are those of valve t of the plant
 pub record ReadFrom (x : ValveWeights) (N : Net) (t : ℕ) : Type 0 where

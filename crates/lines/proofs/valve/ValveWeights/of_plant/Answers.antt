@@ -1,4 +1,4 @@
-use Rattle.std.proofs.Common.{arith, rules, lit≤}
+use Rattle.std.proofs.Common.{rules, lit≤}
 use Rattle.lines.proofs.Tabling.{tabulated, tabulated_small}
 use Rattle.lines.proofs.valve.ValveWeights.of_plant.Goals as goal
 
@@ -13,9 +13,6 @@ invariant_of-result-2 g c = record {
   small = tabulated_small ((g.P.Plant.meaning c.args.plant.now).outlet c.args.valve) c.from_fn-2.ensures.items (λ r x q k. search rules) _ ((g.P.Plant.bounded c.args.plant.now).outlet_small c.args.valve);
   most_small = lit≤ tt;
 }
-
-pub invariant_of-result-3 : goal.invariant_of-result-3
-invariant_of-result-3 g c = record { few_tanks = omega (arith, c.counts.ensures.tanks, (g.P.Plant.bounded c.args.plant.now).few_tanks) }
 
 pub returns : goal.returns
 returns g c = record {
