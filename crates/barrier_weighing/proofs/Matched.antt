@@ -14,7 +14,10 @@ use Rattle.barriers.specs.Tests.{good?}
 use Rattle.starting.specs.Starting.{first_below}
 use Rattle.starting.proofs.Firsts.{Found, first_is}
 use Rattle.lines.specs.OfLine.{line_meant}
+use Rattle.lines.specs.OfValve.{ReadFrom, valve_meant}
 use Rattle.lines.specs.declared.line.LineWeights.{LineWeights}
+use Rattle.lines.specs.declared.valve.ValveWeights.{ValveWeights}
+use Rattle.lines.proofs.OfValve.{good}
 use Rattle.barrier_paper.specs.Document.{match_said}
 use Rattle.barrier_rule.specs.Judgement.{first_bad}
 
@@ -62,7 +65,11 @@ module _ (N : Net) (way : Way) (t : ℕ) (φ : Case) where
             let inside : i < length ws = omega (arith, h.0, length_pairs) in
             record { below = inside; passes = ap not (told i false inside h.1); least = λ k l. ap not (told k true (omega arith) (λ d. h.2 k d (omega arith) l)) }
 
+-- what is known by the weights that are read from a valve is known by the plant
+pub read_told : {v : ValveWeights} {N : Net} {t : ℕ} → ReadFrom v N t → (way : Way) (φ : Case) (b : Bool) (p : Word × LineWeights) → Told (valve_meant v) way 0 φ b p → Told N way t φ b p
+read_told {v} {N} {t} read way φ b p says l = let m = match_said p.0.bits in sym (good v N t read way (line_at φ m.line) (line_meant p.1) m.p m.q) ∙ says l
+
 -- in an open valve's step, the first match that is not good
-pub bad_is : (N : Net) (β : Barrier) (s : Step) {M : Net} {way : Way} {t n : ℕ} {φ φ' : Case} → M ≡ N → way ≡ s.way → t ≡ s.valve → n ≡ length s.matches → φ ≡ case_at β s.from → φ' ≡ case_at β s.to → N.opens s.valve ≡ true
-    → first_below n (λ k. not (good_match M way t φ φ' s.matches k)) ≡ first_bad N β s
-bad_is N β s a b c e f f' o = rw (a, b, c, e, f, f') (sym (cond-true (N.opens s.valve) _ _ o))
+pub bad_is : (N : Net) (β : Barrier) (s : Step) {way : Way} {t n : ℕ} {φ φ' : Case} → way ≡ s.way → t ≡ s.valve → n ≡ length s.matches → φ ≡ case_at β s.from → φ' ≡ case_at β s.to → N.opens s.valve ≡ true
+    → first_below n (λ k. not (good_match N way t φ φ' s.matches k)) ≡ first_bad N β s
+bad_is N β s b c e f f' o = rw (b, c, e, f, f') (sym (cond-true (N.opens s.valve) _ _ o))

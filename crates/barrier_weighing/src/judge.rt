@@ -5,6 +5,7 @@ ghost use Rattle.words.specs.Words.{words};
 ghost use Rattle.barriers.specs.Lines.{line_at};
 ghost use Rattle.barriers.specs.Tests.{good?, holds_barrier?};
 ghost use Rattle.lines.specs.OfLine.{line_meant};
+ghost use Rattle.lines.specs.OfValve.{valve_meant};
 ghost use Rattle.lines.specs.OfWay.{way_meant};
 ghost use Rattle.barrier_paper.specs.Document.{StepFits, barrier_of, joined, case_words, match_said};
 ghost use Rattle.barrier_paper.specs.OfBarrier.{barrier_said};
@@ -25,14 +26,14 @@ use words::{Reader, Word};
 const MOST_PLACES: usize = 2048;
 
 // Whether a match is good, from the line of a case that its word names to a line. One that names no line is not.
-fn is_match_good<P: Plant>(
-    valve: &ValveWeights<P>,
+fn is_match_good(
+    valve: &ValveWeights,
     way: Way,
     from: &CaseLines,
     word: Word,
     to: &LineWeights,
 ) -> bool
-    ensures { (match_said word.bits).line < length (case_meant from.now) → result ≡ good? (P.Plant.meaning valve.now.plant.now) (way_meant way) valve.now.valve (line_at (case_meant from.now) (match_said word.bits).line) (line_meant to.now) (match_said word.bits).p (match_said word.bits).q }
+    ensures { (match_said word.bits).line < length (case_meant from.now) → result ≡ good? (valve_meant valve.now) (way_meant way) 0 (line_at (case_meant from.now) (match_said word.bits).line) (line_meant to.now) (match_said word.bits).p (match_said word.bits).q }
 {
     let MatchWord { line, p, q } = MatchWord::from(word);
     let Some(from) = from.get(line) else {

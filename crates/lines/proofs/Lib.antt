@@ -1,2 +1,3 @@
 pub mod Tabling
 pub mod Adding
+pub mod OfValve

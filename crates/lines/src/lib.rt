@@ -2,6 +2,7 @@
 #![tactic(auto)]
 
 pub mod amounts;
+pub mod laws;
 pub mod line;
 pub mod matches;
 pub mod valve;

@@ -6,12 +6,12 @@ ghost use Rattle.barriers.specs.Steps.{flow};
 ghost use Rattle.barriers.specs.Tests.{tank_good?, marked?, good?};
 ghost use Rattle.lines.specs.Limits.{most_valve_side};
 ghost use Rattle.lines.specs.OfLine.{line_meant};
+ghost use Rattle.lines.specs.OfValve.{valve_meant};
 ghost use Rattle.lines.specs.OfWay.{way_meant};
 ghost use Rattle.lines.specs.Tables.{weight_at};
 
 use crate::line::{LineWeights, Weights};
 use crate::valve::ValveWeights;
-use plant::Plant;
 
 // Forward: a firing changes the second filling of a pair. Backward: it leads to the first.
 #[derive(Clone, Copy, Debug, PartialEq)]
@@ -53,14 +53,8 @@ fn covers(a: u16, high: &Weights, b: u16, low: &Weights, tank: usize) -> bool
 
 // a times the side of what a valve gives, less b times the side of what it takes.
 #[tactic(auto, using(std::proofs::lemmas::Int::ints))]
-fn balance<P: Plant>(
-    valve: &ValveWeights<P>,
-    a: u16,
-    gains: &Weights,
-    b: u16,
-    losses: &Weights,
-) -> i64
-    ensures { let N = P.Plant.meaning valve.now.plant.now in result ≡ pos a *ℤ side (weight_at gains.now.each) (N.outlet valve.now.valve) N.tanks -ℤ pos b *ℤ side (weight_at losses.now.each) (N.intake valve.now.valve) N.tanks }
+fn balance(valve: &ValveWeights, a: u16, gains: &Weights, b: u16, losses: &Weights) -> i64
+    ensures { let N = valve_meant valve.now in result ≡ pos a *ℤ side (weight_at gains.now.each) (N.outlet 0) N.tanks -ℤ pos b *ℤ side (weight_at losses.now.each) (N.intake 0) N.tanks }
 {
     let given = gains.side(&valve.outlet, valve.tanks);
     let taken = losses.side(&valve.intake, valve.tanks);
@@ -86,8 +80,8 @@ impl Match<'_> {
     }
 
     // The flow number of a valve, by the weights of the side that a firing changes.
-    pub fn flow_number<P: Plant>(&self, valve: &ValveWeights<P>, way: Way) -> i64
-        ensures { result ≡ flow (P.Plant.meaning valve.now.plant.now) (way_meant way) valve.now.valve (line_meant self.now.from.now) (line_meant self.now.to.now) self.now.factors.p self.now.factors.q }
+    pub fn flow_number(&self, valve: &ValveWeights, way: Way) -> i64
+        ensures { result ≡ flow (valve_meant valve.now) (way_meant way) 0 (line_meant self.now.from.now) (line_meant self.now.to.now) self.now.factors.p self.now.factors.q }
     {
         let Match { from, to, factors } = *self;
         let Factors { p, q } = factors;
@@ -106,8 +100,8 @@ impl Match<'_> {
     }
 
     // Whether a match is good: the numbers of the tanks and the flow number are at least 0, and a mark stands.
-    pub fn is_good<P: Plant>(&self, valve: &ValveWeights<P>, way: Way) -> bool
-        ensures { result ≡ good? (P.Plant.meaning valve.now.plant.now) (way_meant way) valve.now.valve (line_meant self.now.from.now) (line_meant self.now.to.now) self.now.factors.p self.now.factors.q }
+    pub fn is_good(&self, valve: &ValveWeights, way: Way) -> bool
+        ensures { result ≡ good? (valve_meant valve.now) (way_meant way) 0 (line_meant self.now.from.now) (line_meant self.now.to.now) self.now.factors.p self.now.factors.q }
     {
         if !self.are_tanks_good(valve.tanks) {
             return false;

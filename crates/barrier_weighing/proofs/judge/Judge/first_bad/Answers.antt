@@ -10,7 +10,7 @@ use Rattle.barrier_paper.specs.OfBarrier.{barrier_said}
 use Rattle.barrier_paper.proofs.Chains.{all_given}
 use Rattle.barrier_weighing.specs.OfCases.{case_meant}
 use Rattle.barrier_weighing.specs.OfMatches.{whole_step}
-use Rattle.barrier_weighing.proofs.Matched.{Told, searched, bad_is}
+use Rattle.barrier_weighing.proofs.Matched.{Told, searched, read_told, bad_is}
 use Rattle.barrier_weighing.proofs.Steps.{there, case_is, matched, named}
 use Rattle.barrier_weighing.proofs.judge.Judge.first_bad.Given as given
 use Rattle.barrier_weighing.proofs.judge.Judge.first_bad.Goals as goal
@@ -33,9 +33,9 @@ pub returns : goal.returns
 returns g c =
     let d = barrier_said c.args.self.now.paper.now in
     let s = whole_step c.args.word.bits (words c.args.matches.now) in
-    let M = g.P.Plant.meaning c.of_plant-valve.result.plant.now in
+    let N = g.P.Plant.meaning c.args.self.now.plant.now in
     let way = way_meant c.from-step.result.way in
-    let t = c.of_plant-valve.result.valve in
+    let t = c.from-step.result.valve in
     let from = c.index-deref-step.result in
     let to = c.index-deref-step-2.result in
     let ws = words c.args.matches.now in
@@ -43,10 +43,9 @@ returns g c =
     ap case_meant (c.index-deref-step.is ∙ ap (λ xs. get_or xs c.from-step.result.from from) c.deref.ensures.0) ∙ case_is c.args.self.now.cases d c.args.self.now.meant c.from-step.ensures.from c.requires.from_there from in
     let right : case_meant to ≡ case_at (barrier_of d) s.to =
     ap case_meant (c.index-deref-step-2.is ∙ ap (λ xs. get_or xs c.from-step.result.to to) c.deref-2.ensures.0) ∙ case_is c.args.self.now.cases d c.args.self.now.meant c.from-step.ensures.to c.requires.to_there to in
-    let found = IsFirst-from_position c.position.new.self _ c.position.result (Told M way t (case_meant from) false) (Told M way t (case_meant from) true) c.position.ensures.ran
+    let found = IsFirst-from_position c.position.new.self _ c.position.result (Told N way t (case_meant from) false) (Told N way t (case_meant from) true) c.position.ensures.ran
     (YieldsList-from_zip (YieldsList-at c.zip-matched.ensures.first (all_given c.new.result c.args.matches.now c.new.ensures.at c.new.ensures.bytes)) (YieldsList-from_slice to.items c.zip-matched.ensures.second.0))
-    (λ x q k l. search (rules, tests))
-    (λ x q k. (search rules, λ l. search (rules, tests))) in
-    searched M way t (case_meant from) ws to.items (matched d _ ws c.requires to.items right) (named d _ ws c.requires left) c.position.result found
-    ∙ bad_is (g.P.Plant.meaning c.args.self.now.plant.now) (barrier_of d) s (ap (g.P.Plant.meaning) c.of_plant-valve.ensures.plant) c.from-step.ensures.way (c.of_plant-valve.ensures.valve ∙ c.from-step.ensures.valve)
-    (sym (length-map ws match_said)) left right (ap (g.P.Plant.meaning c.args.self.now.plant.now).opens (sym c.from-step.ensures.valve) ∙ sym c.if-not-is_open.ensures)
+    (λ x q k. read_told c.of_plant-valve.ensures way (case_meant from) false (x.0, x.1.now) (λ l. search (rules, tests)))
+    (λ x q k. (search rules, read_told c.of_plant-valve.ensures way (case_meant from) true (x.0, x.1.now) (λ l. search (rules, tests)))) in
+    searched N way t (case_meant from) ws to.items (matched d _ ws c.requires to.items right) (named d _ ws c.requires left) c.position.result found
+    ∙ bad_is N (barrier_of d) s c.from-step.ensures.way c.from-step.ensures.valve (sym (length-map ws match_said)) left right (ap N.opens (sym c.from-step.ensures.valve) ∙ sym c.if-not-is_open.ensures)

@@ -14,11 +14,9 @@ invariant_of-result-2 g c = record {
   most_small = lit≤ tt;
 }
 
-pub invariant_of-result-3 : goal.invariant_of-result-3
-invariant_of-result-3 g c = record {
-  read = record {
-    tanks = c.counts.ensures.tanks;
-    intake = tabulated _ c.from_fn.ensures.items (λ r x q k. search rules);
-    outlet = tabulated _ c.from_fn-2.ensures.items (λ r x q k. search rules);
-  };
+pub returns : goal.returns
+returns g c = record {
+  tanks = c.counts.ensures.tanks;
+  intake = tabulated _ c.from_fn.ensures.items (λ r x q k. search rules);
+  outlet = tabulated _ c.from_fn-2.ensures.items (λ r x q k. search rules);
 }
