@@ -39,7 +39,7 @@ impl<'a, P: Plant> Going<'a, P> {
     }
 
     // Whether a valve is in the set, and takes only from tanks that hold something or are given to.
-    // A tank that the filling does not list is empty.
+    // A tank that the filling does not list is empty. Three contracts say `next`, of three moments, so that it is no fact of the struct.
     fn can_go(&self, valve: usize) -> bool
         requires { valve < (P.Plant.meaning self.now.plant.now).valves }
         ensures { let N = P.Plant.meaning self.now.plant.now in result ≡ next N (held self.now.filling.now) (marked self.now.set.now) (marked self.now.went) valve }
