@@ -70,7 +70,7 @@ pub fn written_out(
     Ok(bytes)
 }
 
-// Tries each list of words after a head, read by `met`.
+// Tries each list of words after a head, read by `met`. `rt` and `heap` are what a test is handed, here and below, and no one thing.
 pub fn tried<F: Fn(&[u8]) -> Option<(u32, usize)>>(
     rt: &impl Abort,
     heap: Global,
