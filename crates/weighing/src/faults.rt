@@ -1,16 +1,19 @@
 // Why a weighing refuses, and what it answers otherwise. The upper fault carries the lower one whole.
 ghost use Rattle.std.specs.Prelude.{◌≡◌, Some};
-ghost use Rattle.weighing.specs.Faults.{of_question, of_totals, of_weighing};
+ghost use Rattle.weighing.specs.Faults.{of_question, of_totals, of_barrier_paper, of_weighing};
 ghost use Rattle.weighing.specs.Shown.{verdict_text};
 ghost use Rattle.weighing.specs.declared.faults.WeighingFault.TheVariants.{Question as OfQuestion, Paper as OfPaper, Totals as OfTotals};
 
+use barrier_rule::BarrierFault;
+use barrier_weighing::BarrierPaperFault;
 use std::fmt;
 use words::{PaperFault, Part, Refusal};
 
-// What a paper that is accepted shows.
+// What a paper that is accepted shows: that a walk leads from source to target, or that none does.
 #[derive(Clone, Copy, Debug, PartialEq, Eq)]
 pub enum Verdict {
     Joined,
+    CutOff,
 }
 
 impl fmt::Display for Verdict {
@@ -19,6 +22,7 @@ impl fmt::Display for Verdict {
     fn fmt<W: fmt::Write>(&self, f: &mut fmt::Formatter<W>) -> fmt::Result {
         match self {
             Verdict::Joined => f.write_str("JOINED"),
+            Verdict::CutOff => f.write_str("CUT OFF"),
         }
     }
 }
@@ -52,9 +56,10 @@ pub enum WeighingFault {
     Question(QuestionFault),
     Paper(PaperFault),
     Totals(TotalsFault),
+    Barrier(BarrierFault),
 }
 
-// The three are written by hand: a derived From has no contract, so `?` would not say which fault it makes.
+// These are written by hand: a derived From has no contract, so `?` would not say which fault it makes.
 impl From<QuestionFault> for WeighingFault {
     ghost from_gives = { λ x y. y ≡ OfQuestion x };
 
@@ -76,6 +81,17 @@ impl From<TotalsFault> for WeighingFault {
 
     fn from(value: TotalsFault) -> WeighingFault {
         WeighingFault::Totals(value)
+    }
+}
+
+impl From<BarrierPaperFault> for WeighingFault {
+    ghost from_gives = { λ x y. y ≡ of_barrier_paper x };
+
+    fn from(value: BarrierPaperFault) -> WeighingFault {
+        match value {
+            BarrierPaperFault::Paper(fault) => WeighingFault::Paper(fault),
+            BarrierPaperFault::Barrier(fault) => WeighingFault::Barrier(fault),
+        }
     }
 }
 
@@ -123,6 +139,7 @@ impl From<WeighingFault> for Refusal {
             WeighingFault::Question(fault) => Refusal::from(fault),
             WeighingFault::Paper(fault) => Refusal::from(fault),
             WeighingFault::Totals(fault) => Refusal::from(fault),
+            WeighingFault::Barrier(fault) => Refusal::from(fault),
         }
     }
 }

@@ -1,13 +1,15 @@
 // The question that a weighing answers: whether the plant can bring its tanks from one filling to another.
-ghost use Rattle.std.specs.Prelude.{◌≡◌, ◌<◌, length, IfSome, IfOk};
+ghost use Rattle.std.specs.Prelude.{◌≡◌, ℕ, ◌<◌, ◌≤◌, length, IfSome, IfOk};
 ghost use Rattle.std.specs.Result.{result_map_both};
+ghost use Rattle.plant.specs.Limits.{most_amount};
+ghost use Rattle.plant.specs.Walk.{held};
 ghost use Rattle.weighing.specs.Question.{over, asked};
 
 use crate::faults::{QuestionFault, Side};
 use plant::Plant;
 use plant::limits::MOST_AMOUNT;
 
-// Both fillings are of the plant's tanks.
+// Both fillings are of the plant's tanks and within the limits.
 #[derive(Drop)]
 pub struct Question<'a, P: Plant> {
     pub plant: &'a P,
@@ -15,6 +17,8 @@ pub struct Question<'a, P: Plant> {
     pub target: &'a [u32],
     ghost source_long: { length source.now ≡ (P.Plant.meaning plant.now).tanks },
     ghost target_long: { length target.now ≡ (P.Plant.meaning plant.now).tanks },
+    ghost source_small: { (r : ℕ) → held source.now r ≤ most_amount },
+    ghost target_small: { (r : ℕ) → held target.now r ≤ most_amount },
 }
 
 // The first tank that holds more than the limit.

@@ -1,9 +1,8 @@
-use Rattle.std.proofs.Common.{◌≡◌, ℕ, ◌||◌, false, replicate, length-set, refl, ap, ◌∙◌, arith}
+use Rattle.std.proofs.Common.{◌||◌, length-set, refl, ap, ◌∙◌, arith}
 use Rattle.std.proofs.lemmas.Grind.{common_steps}
 use Rattle.std.specs.List.{list_any}
 use Rattle.plant.specs.Firings.{named}
 use Rattle.words.specs.Left.{left, to_come}
-use Rattle.starting.specs.Starting.{marked}
 use Rattle.starting.proofs.Sweeps.{marked_none}
 use Rattle.weighing.proofs.Reading.{totals, valve_named}
 use Rattle.weighing.proofs.totals.totalled.Goals as goal
