@@ -1,11 +1,11 @@
 -- Words that are written are cut off and read again.
-use Rattle.std.proofs.Common.{◌≡◌, ℕ, ◌+◌, ◌*◌, ◌/◌, ◌%◌, ◌^◌, ◌<◌, ◌≤◌, Bool, true, false, ◌≢◌, List, [], ◌∷◌, ◌++◌, length, Ok, refl, ap, ◌∙◌, arith}
+use Rattle.std.proofs.Common.{◌≡◌, ℕ, ◌+◌, ◌*◌, ◌^◌, ◌<◌, ◌≤◌, Bool, true, ◌≢◌, List, [], ◌∷◌, ◌++◌, length, Ok, refl, ap, ◌∙◌, arith}
 use Rattle.std.specs.List.{prefix_len, AllByRecursion}
 use Rattle.std.proofs.lemmas.List.{take_at, drop_at}
 use Rattle.std.proofs.ByRecursion.{All-weaker, All-map}
 use Rattle.std.proofs.lemmas.Bool.{eq-eqb, ne_eqb, not_from_false, cond-true, cond-false}
 use Rattle.plant.specs.Limits.{most_tanks, most_valves, most_weight}
-use Rattle.words.specs.Words.{words, bytes, word, kind, field}
+use Rattle.words.specs.Words.{words, bytes, kind, field}
 use Rattle.words.specs.Inverse.{Words}
 use Rattle.words.proofs.Inverses.{again}
 use Rattle.paper.proofs.Steps.{length_bytes}

@@ -1,8 +1,8 @@
 // The judgement of a dossier.
 ghost use Rattle.std.specs.Prelude.{◌≡◌, Ok};
-ghost use Rattle.weighing.specs.declared.faults.Verdict.TheVariants.{Joined};
+ghost use Rattle.weighing.specs.declared.faults.Verdict.TheVariants.{Joined, CutOff};
 ghost use Rattle.dossier.specs.Judging.{judged};
-ghost use Rattle.dossier.specs.Shown.{HasWalk};
+ghost use Rattle.dossier.specs.Shown.{HasWalk, HasNoWalk};
 
 use crate::faults::{DossierFault, check_size};
 use crate::fillings::read_filling;
@@ -26,9 +26,10 @@ fn judge_in_turn(input: &[u8]) -> Result<Verdict, DossierFault>
 }
 
 // What the dossier's evidence shows of its plant, source and target, or the first fault of the dossier. JOINED is answered only
-// where the plant has a walk from the source to the target.
+// where the plant has a walk from the source to the target, and CUT OFF only where it has none.
 pub fn judge(input: &[u8]) -> Result<Verdict, DossierFault>
     ensures joined { result ≡ Ok Joined → HasWalk input.now }
+    ensures cut_off { result ≡ Ok CutOff → HasNoWalk input.now }
     ensures answer { result ≡ judged input.now }
 {
     judge_in_turn(input)

@@ -1,5 +1,5 @@
 -- The papers of the worked cases, as words.
-use Rattle.std.specs.Prelude.{ℕ, List, [], ◌∷◌}
+use Rattle.std.specs.Prelude.{ℕ, List, [], ◌∷◌, ◌++◌}
 use Rattle.plant.specs.Net.{Net}
 use Rattle.words.specs.Words.{bytes}
 use Rattle.paper.specs.PlantForm.{plant_read, plant_made}
@@ -35,3 +35,20 @@ one_charge = bytes (0x40000001 ∷ 0x50000001 ∷ [])
 -- divisor 1, and no totals
 abbrev pub no_totals : List ℕ
 no_totals = bytes (0x40000001 ∷ [])
+
+-- a barrier of the mixer, of pairs of markings m, m'. Case 0 has one line, m(2) ≤ -m'(2): tank 2 is empty on both sides. Case 1 has
+-- one strict line, -m(2) < 0: tank 2 holds something on the first. For each direction, case and valve a step with one match follows;
+-- the last match is left out
+abbrev pub barrier_words : List ℕ
+barrier_words =
+    0x60000000 ∷ 0x70000000 ∷ 0x80800001 ∷ 0x90804001
+    ∷ 0x60000000 ∷ 0x70000001 ∷ 0x80804001
+    ∷ 0xA0000000 ∷ 0xB0001001 ∷ 0xA0020000 ∷ 0xB0001000 ∷ 0xA0802000 ∷ 0xB0001001 ∷ 0xA0822000 ∷ 0xB0001001
+    ∷ 0xA8000000 ∷ 0xB0001001 ∷ 0xA8020000 ∷ 0xB0001000 ∷ 0xA8802000 ∷ 0xB0001001 ∷ 0xA8822000 ∷ []
+
+abbrev pub tank_2_stays_empty : List ℕ
+tank_2_stays_empty = bytes (barrier_words ++ 0xB0000001 ∷ [])
+
+-- the same with another last match: its factor p is 1 in place of 0
+abbrev pub last_factor_spoilt : List ℕ
+last_factor_spoilt = bytes (barrier_words ++ 0xB0001001 ∷ [])
