@@ -1,13 +1,12 @@
-// What weighings of barrier papers answer: the number and the place of the first fault, or that the paper parts the fillings.
+// What weighings of barriers answer: the number and the place of the first fault, or that the fillings are cut off.
 use crate::sheets::{MIXER, Trial, named, put, refusal_of, written};
 use barrier_rule::BarrierFault;
-use barrier_weighing::weigh_barrier;
-use lines::Amounts;
 use paper::PaperPlant;
 use plant::limits::MOST_VALVES;
 use plant::{Narrowed, Plant, RingMain, Turned};
 use std::alloc::{AllocError, Global};
 use std::test::Fail;
+use weighing::faults::Verdict;
 use weighing::weigh::weigh;
 use words::Part;
 
@@ -18,8 +17,7 @@ fn met<P: Plant>(
     target: &[u32],
     evidence: &[u8],
 ) -> Option<(u32, usize)> {
-    let (source, target) = (Amounts::of_filling(source), Amounts::of_filling(target));
-    refusal_of(weigh_barrier(plant, &source, &target, evidence))
+    refusal_of(weigh(plant, source, target, evidence))
 }
 
 // What a paper meets on the plant of another.
@@ -114,8 +112,10 @@ fn narrowed_met(
 fn worked_barrier(rt: HostRuntime) -> Result<(), Fail> {
     let bytes = written(rt.alloc(), &MIXER)?;
     let worked = written(rt.alloc(), &WORKED)?;
-    let plant = PaperPlant::new(&bytes);
-    assert_eq!(rt; met(&plant, &[2, 0, 0], &[0, 0, 2], &worked), None);
+    assert_eq!(rt;
+        weigh(&PaperPlant::new(&bytes), &[2, 0, 0], &[0, 0, 2], &worked)?,
+        Verdict::CutOff
+    );
     Ok(())
 }
 
@@ -586,8 +586,9 @@ struct Asked {
     refused: Option<(u32, usize)>,
 }
 
-// The question comes before the paper: a case with an unnamed bit, and a barrier that holds across.
-static QUESTIONS: [Asked; 6] = [
+// On the mixer.
+static ASKED: [Asked; 14] = [
+    // the question before the paper: a case with an unnamed bit, and a barrier that holds across
     Asked {
         source: &[2, 0],
         target: &[0, 0, 2],
@@ -624,10 +625,6 @@ static QUESTIONS: [Asked; 6] = [
         words: &[0x6000_0000],
         refused: Some((11, 64)),
     },
-];
-
-// On the mixer.
-static ASKED: [Asked; 8] = [
     Asked {
         source: &[2, 0, 0],
         target: &[0, 0, 2],
@@ -696,22 +693,6 @@ static ASKED: [Asked; 8] = [
         refused: Some((9, 16)),
     },
 ];
-
-#[test]
-fn question_before_the_paper(rt: HostRuntime) -> Result<(), Fail> {
-    let plant = written(rt.alloc(), &MIXER)?;
-    for asked in QUESTIONS {
-        let evidence = written(rt.alloc(), asked.words)?;
-        let found = refusal_of(weigh(
-            &PaperPlant::new(&plant),
-            asked.source,
-            asked.target,
-            &evidence,
-        ));
-        assert_eq!(rt; found, asked.refused);
-    }
-    Ok(())
-}
 
 #[test]
 fn order_of_checks(rt: HostRuntime) -> Result<(), Fail> {

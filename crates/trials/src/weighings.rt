@@ -163,7 +163,7 @@ static EVIDENCE: [Trial; 9] = [
     },
     Trial {
         words: &[0x6000_0000],
-        refused: Some((4, 0)),
+        refused: Some((18, 0)),
     },
     Trial {
         words: &[0x4000_0001, 0x5000_0002, 0x5040_0000],
