@@ -1,5 +1,7 @@
 // What is read of barrier papers: the number and the place of the first fault, and the parts of a paper that has none.
-use crate::sheets::{Trial, named, put, refusal_of, tried, unnamed, written};
+use crate::sheets::{
+    Trial, first_misnamed, first_unnoticed, first_wrong, put, refusal_of, written,
+};
 use barrier_paper::BarrierPaper;
 use barrier_paper::step_words::{MatchWord, StepWord};
 use barrier_paper::weights::line_weights;
@@ -7,7 +9,6 @@ use barrier_paper::windows::{count_kind, line, part_of};
 use lines::Way;
 use plant::Counts;
 use std::alloc::{AllocError, Global};
-use std::process::Abort;
 use std::test::Fail;
 use words::{Kind, PaperFault, Part, Word};
 
@@ -16,9 +17,13 @@ fn met(bytes: &[u8], tanks: usize, valves: usize) -> Option<(u32, usize)> {
     refusal_of(BarrierPaper::read(bytes, Counts { tanks, valves }))
 }
 
-// On a plant with two tanks and two valves.
-fn on_two(rt: &impl Abort, heap: Global, head: &[u32], trials: &[Trial]) -> Result<(), Fail> {
-    tried(rt, heap, head, trials, |bytes: &[u8]| met(bytes, 2, 2))
+// The first trial that meets another answer than it tells, on a plant with two tanks and two valves.
+fn first_wrong_on_two(
+    heap: Global,
+    head: &[u32],
+    trials: &[Trial],
+) -> Result<Option<usize>, AllocError> {
+    first_wrong(heap, head, trials, |bytes: &[u8]| met(bytes, 2, 2))
 }
 
 // A word, and so many times another.
@@ -346,33 +351,30 @@ static MATCHES: [Trial; 12] = [
 
 #[test]
 fn cases_of_barriers(rt: HostRuntime) -> Result<(), Fail> {
-    on_two(&rt, rt.alloc(), &[], &CASES)
+    assert_eq!(rt; first_wrong_on_two(rt.alloc(), &[], &CASES)?, None);
+    Ok(())
 }
 
 #[test]
 fn weights_of_lines(rt: HostRuntime) -> Result<(), Fail> {
-    on_two(&rt, rt.alloc(), &[0x6000_0000, 0x7000_0000], &WEIGHTS)
+    let head = [0x6000_0000, 0x7000_0000];
+    assert_eq!(rt; first_wrong_on_two(rt.alloc(), &head, &WEIGHTS)?, None);
+    Ok(())
 }
 
 #[test]
 fn steps_of_barriers(rt: HostRuntime) -> Result<(), Fail> {
-    on_two(
-        &rt,
-        rt.alloc(),
-        &[0x6000_0000, 0x7000_0000, 0x6000_0000],
-        &STEPS,
-    )
+    let head = [0x6000_0000, 0x7000_0000, 0x6000_0000];
+    assert_eq!(rt; first_wrong_on_two(rt.alloc(), &head, &STEPS)?, None);
+    Ok(())
 }
 
 // A table, and so a test, of its own.
 #[test]
 fn matches_of_steps(rt: HostRuntime) -> Result<(), Fail> {
-    on_two(
-        &rt,
-        rt.alloc(),
-        &[0x6000_0000, 0x7000_0000, 0x6000_0000],
-        &MATCHES,
-    )
+    let head = [0x6000_0000, 0x7000_0000, 0x6000_0000];
+    assert_eq!(rt; first_wrong_on_two(rt.alloc(), &head, &MATCHES)?, None);
+    Ok(())
 }
 
 // The place of a word, and its unnamed bits: from the lowest to before the highest. A match has none.
@@ -395,13 +397,9 @@ fn unnamed_bits_of_barriers(rt: HostRuntime) -> Result<(), Fail> {
         0xa000_0000,
         0xb000_0000,
     ];
-    unnamed(
-        &rt,
-        rt.alloc(),
-        words,
-        &BITS,
-        |bytes: &[u8]| met(bytes, 1, 1),
-    )
+    let met = |bytes: &[u8]| met(bytes, 1, 1);
+    assert_eq!(rt; first_unnoticed(rt.alloc(), words, &BITS, met)?, None);
+    Ok(())
 }
 
 // At most 16 cases, and at most 16 lines to each, the last of which can be named. The first of the lines too many is in the first case.
@@ -570,11 +568,9 @@ fn what_steps_say(rt: HostRuntime) {
 // Matches that are still due, and one case or line too many, are faults of the paper.
 #[test]
 fn refusals_of_barriers(rt: HostRuntime) {
-    named(
-        &rt,
-        &[
-            (PaperFault::Due(9), 5, 9, Part::Paper),
-            (PaperFault::Count(16), 9, 16, Part::Paper),
-        ],
-    );
+    let faults = [
+        (PaperFault::Due(9), 5, 9, Part::Paper),
+        (PaperFault::Count(16), 9, 16, Part::Paper),
+    ];
+    assert_eq!(rt; first_misnamed(&faults), None);
 }

@@ -1,5 +1,5 @@
 // What weighings of barriers answer: the number and the place of the first fault, or that the fillings are cut off.
-use crate::sheets::{MIXER, Trial, named, put, refusal_of, written};
+use crate::sheets::{MIXER, Trial, first_misnamed, put, refusal_of, written};
 use barrier_rule::BarrierFault;
 use paper::PaperPlant;
 use plant::limits::MOST_VALVES;
@@ -772,14 +772,12 @@ fn all_places(rt: HostRuntime) -> Result<(), Fail> {
 // The number and the place of each fault; the part is the weighing.
 #[test]
 fn faults_of_barriers(rt: HostRuntime) {
-    named(
-        &rt,
-        &[
-            (BarrierFault::FailsSource, 16, 0, Part::Weighing),
-            (BarrierFault::FailsTarget, 17, 0, Part::Weighing),
-            (BarrierFault::HoldsAcross, 18, 0, Part::Weighing),
-            (BarrierFault::Missing(2047), 19, 2047, Part::Weighing),
-            (BarrierFault::BadMatch(8191), 20, 8191, Part::Weighing),
-        ],
-    );
+    let faults = [
+        (BarrierFault::FailsSource, 16, 0, Part::Weighing),
+        (BarrierFault::FailsTarget, 17, 0, Part::Weighing),
+        (BarrierFault::HoldsAcross, 18, 0, Part::Weighing),
+        (BarrierFault::Missing(2047), 19, 2047, Part::Weighing),
+        (BarrierFault::BadMatch(8191), 20, 8191, Part::Weighing),
+    ];
+    assert_eq!(rt; first_misnamed(&faults), None);
 }

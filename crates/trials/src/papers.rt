@@ -1,5 +1,7 @@
 // What is read of papers: the number and the place of the first fault.
-use crate::sheets::{Trial, named, refusal_of, tried, unnamed, written, written_out};
+use crate::sheets::{
+    Trial, first_misnamed, first_unnoticed, first_wrong, refusal_of, written, written_out,
+};
 use paper::{Total, TotalsPaper, check_plant};
 use plant::Counts;
 use std::test::Fail;
@@ -191,13 +193,15 @@ static TOTALS: [Trial; 17] = [
 #[test]
 fn plant_papers(rt: HostRuntime) -> Result<(), Fail> {
     let met = |bytes: &[u8]| refusal_of(check_plant(bytes));
-    tried(&rt, rt.alloc(), &[], &PLANTS, met)
+    assert_eq!(rt; first_wrong(rt.alloc(), &[], &PLANTS, met)?, None);
+    Ok(())
 }
 
 #[test]
 fn totals_papers(rt: HostRuntime) -> Result<(), Fail> {
     let met = |bytes: &[u8]| refusal_of(TotalsPaper::read(bytes, 2));
-    tried(&rt, rt.alloc(), &[], &TOTALS, met)
+    assert_eq!(rt; first_wrong(rt.alloc(), &[], &TOTALS, met)?, None);
+    Ok(())
 }
 
 // The place of a word, and its unnamed bits: from the lowest to before the highest.
@@ -210,7 +214,8 @@ static TOTALS_BITS: [(usize, u32, u32); 2] = [(0, 20, 28), (1, 20, 22)];
 fn unnamed_bits_of_plants(rt: HostRuntime) -> Result<(), Fail> {
     let words = [0x1000_0081, 0x2000_0001, 0x3000_0001];
     let met = |bytes: &[u8]| refusal_of(check_plant(bytes));
-    unnamed(&rt, rt.alloc(), words, &PLANT_BITS, met)
+    assert_eq!(rt; first_unnoticed(rt.alloc(), words, &PLANT_BITS, met)?, None);
+    Ok(())
 }
 
 // In a totals head and a total.
@@ -218,7 +223,11 @@ fn unnamed_bits_of_plants(rt: HostRuntime) -> Result<(), Fail> {
 fn unnamed_bits_of_totals(rt: HostRuntime) -> Result<(), Fail> {
     let words = [0x4000_0001, 0x5000_0001];
     let met = |bytes: &[u8]| refusal_of(TotalsPaper::read(bytes, 1));
-    unnamed(&rt, rt.alloc(), words, &TOTALS_BITS, met)
+    assert_eq!(rt;
+        first_unnoticed(rt.alloc(), words, &TOTALS_BITS, met)?,
+        None
+    );
+    Ok(())
 }
 
 // No bytes are no paper, and a paper of broken words is refused at the number of its whole words.
@@ -291,16 +300,14 @@ fn what_is_read(rt: HostRuntime) -> Result<(), Fail> {
 // The number, the place and the part of each fault.
 #[test]
 fn refusals_of_papers(rt: HostRuntime) {
-    named(
-        &rt,
-        &[
-            (PaperFault::Words(WordFault::Ragged(5)), 1, 5, Part::Words),
-            (PaperFault::Words(WordFault::Empty), 2, 0, Part::Words),
-            (PaperFault::Words(WordFault::Long(9)), 3, 9, Part::Words),
-            (PaperFault::Kind(3), 4, 3, Part::Paper),
-            (PaperFault::Unnamed(0), 6, 0, Part::Paper),
-            (PaperFault::Limit(1), 7, 1, Part::Paper),
-            (PaperFault::Order(2), 8, 2, Part::Paper),
-        ],
-    );
+    let faults = [
+        (PaperFault::Words(WordFault::Ragged(5)), 1, 5, Part::Words),
+        (PaperFault::Words(WordFault::Empty), 2, 0, Part::Words),
+        (PaperFault::Words(WordFault::Long(9)), 3, 9, Part::Words),
+        (PaperFault::Kind(3), 4, 3, Part::Paper),
+        (PaperFault::Unnamed(0), 6, 0, Part::Paper),
+        (PaperFault::Limit(1), 7, 1, Part::Paper),
+        (PaperFault::Order(2), 8, 2, Part::Paper),
+    ];
+    assert_eq!(rt; first_misnamed(&faults), None);
 }

@@ -1,7 +1,5 @@
 // Papers for the trials, written word by word.
 use std::alloc::{AllocError, Global};
-use std::process::Abort;
-use std::test::Fail;
 use words::{Part, Refusal};
 
 // A paper, and the number and the place of the refusal that it meets, if it meets one.
@@ -70,59 +68,66 @@ pub fn written_out(
     Ok(bytes)
 }
 
-// Tries each list of words after a head, read by `met`. `rt` and `heap` are what a test is handed, here and below, and no one thing.
-pub fn tried<F: Fn(&[u8]) -> Option<(u32, usize)>>(
-    rt: &impl Abort,
+// The first trial that meets another answer than it tells, by its place in the table: its words after a head, read by `met`.
+pub fn first_wrong<F: Fn(&[u8]) -> Option<(u32, usize)>>(
     heap: Global,
     head: &[u32],
     trials: &[Trial],
     met: F,
-) -> Result<(), Fail>
+) -> Result<Option<usize>, AllocError>
     requires { F.IsAlwaysCallable met }
 {
-    for trial in trials {
+    for (row, trial) in trials.iter().enumerate() {
         let mut bytes = written(heap, head)?;
         for word in trial.words {
             put(&mut bytes, *word)?;
         }
-        assert_eq!(rt; met(&bytes), trial.refused);
+        if met(&bytes) != trial.refused {
+            return Ok(Some(row));
+        }
     }
-    Ok(())
+    Ok(None)
 }
 
-// Each unnamed bit alone is refused at its word: the place of a word, and its unnamed bits from the lowest to before the highest.
-pub fn unnamed<F: Fn(&[u8]) -> Option<(u32, usize)>, const N: usize>(
-    rt: &impl Abort,
+// The first unnamed bit that is not refused at its word: the place of a word, and its unnamed bits from the lowest to before the highest.
+pub fn first_unnoticed<F: Fn(&[u8]) -> Option<(u32, usize)>, const N: usize>(
     heap: Global,
     words: [u32; N],
     bits: &[(usize, u32, u32)],
     met: F,
-) -> Result<(), Fail>
+) -> Result<Option<(usize, u32)>, AllocError>
     requires { F.IsAlwaysCallable met }
 {
     for &(place, low, high) in bits {
         for bit in low..high {
+            if place >= N || bit >= 32 {
+                return Ok(Some((place, bit)));
+            }
             let mut changed = words;
-            assert!(rt; place < N && bit < 32);
             changed[place] |= 1 << bit;
             let bytes = written(heap, &changed)?;
-            assert_eq!(rt; met(&bytes), Some((6, place)));
+            if met(&bytes) != Some((6, place)) {
+                return Ok(Some((place, bit)));
+            }
         }
     }
-    Ok(())
+    Ok(None)
 }
 
-// The number, the place and the part of each fault.
-pub fn named<F: Copy>(rt: &impl Abort, faults: &[(F, u32, usize, Part)])
+// The first fault that names another number, place or part than is told of it, by its place in the table.
+pub fn first_misnamed<F: Copy>(faults: &[(F, u32, usize, Part)]) -> Option<usize>
 where
     Refusal: From<F>,
 {
-    for &(fault, number, place, part) in faults {
+    for (row, &(fault, number, place, part)) in faults.iter().enumerate() {
         let refusal = Refusal {
             number,
             place,
             part,
         };
-        assert_eq!(rt; Refusal::from(fault), refusal);
+        if Refusal::from(fault) != refusal {
+            return Some(row);
+        }
     }
+    None
 }

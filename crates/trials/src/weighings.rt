@@ -1,5 +1,5 @@
 // What weighings answer: the number and the place of the first fault, or that the fillings are joined.
-use crate::sheets::{MIXER, Trial, named, refusal_of, written};
+use crate::sheets::{MIXER, Trial, first_misnamed, refusal_of, written};
 use paper::PaperPlant;
 use plant::limits::MOST_VALVES;
 use plant::{Narrowed, Plant, RingMain, Turned};
@@ -308,75 +308,73 @@ fn ring_of_64_starts(rt: HostRuntime) {
 // The number, the place and the part of each fault.
 #[test]
 fn refusals_of_weighings(rt: HostRuntime) {
-    named(
-        &rt,
-        &[
-            (
-                WeighingFault::Question(QuestionFault::Length(Side::Source)),
-                10,
-                0,
-                Part::Question,
-            ),
-            (
-                WeighingFault::Question(QuestionFault::Length(Side::Target)),
-                10,
-                1,
-                Part::Question,
-            ),
-            (
-                WeighingFault::Question(QuestionFault::Amount(Side::Source, 63)),
-                11,
-                63,
-                Part::Question,
-            ),
-            (
-                WeighingFault::Question(QuestionFault::Amount(Side::Target, 0)),
-                11,
-                64,
-                Part::Question,
-            ),
-            (
-                WeighingFault::Question(QuestionFault::Amount(Side::Target, 63)),
-                11,
-                127,
-                Part::Question,
-            ),
-            (
-                WeighingFault::Paper(PaperFault::Words(WordFault::Long(8193))),
-                3,
-                8193,
-                Part::Words,
-            ),
-            (
-                WeighingFault::Paper(PaperFault::Order(2)),
-                8,
-                2,
-                Part::Paper,
-            ),
-            (
-                WeighingFault::Totals(TotalsFault::Closed(1)),
-                12,
-                1,
-                Part::Weighing,
-            ),
-            (
-                WeighingFault::Totals(TotalsFault::Unbalanced(63)),
-                13,
-                63,
-                Part::Weighing,
-            ),
-            (
-                WeighingFault::Totals(TotalsFault::NoStart(63)),
-                14,
-                63,
-                Part::Weighing,
-            ),
-            (
-                WeighingFault::Totals(TotalsFault::NoEnd(0)),
-                15,
-                0,
-                Part::Weighing,
-            ),
-        ],
-    );
+    let faults = [
+        (
+            WeighingFault::Question(QuestionFault::Length(Side::Source)),
+            10,
+            0,
+            Part::Question,
+        ),
+        (
+            WeighingFault::Question(QuestionFault::Length(Side::Target)),
+            10,
+            1,
+            Part::Question,
+        ),
+        (
+            WeighingFault::Question(QuestionFault::Amount(Side::Source, 63)),
+            11,
+            63,
+            Part::Question,
+        ),
+        (
+            WeighingFault::Question(QuestionFault::Amount(Side::Target, 0)),
+            11,
+            64,
+            Part::Question,
+        ),
+        (
+            WeighingFault::Question(QuestionFault::Amount(Side::Target, 63)),
+            11,
+            127,
+            Part::Question,
+        ),
+        (
+            WeighingFault::Paper(PaperFault::Words(WordFault::Long(8193))),
+            3,
+            8193,
+            Part::Words,
+        ),
+        (
+            WeighingFault::Paper(PaperFault::Order(2)),
+            8,
+            2,
+            Part::Paper,
+        ),
+        (
+            WeighingFault::Totals(TotalsFault::Closed(1)),
+            12,
+            1,
+            Part::Weighing,
+        ),
+        (
+            WeighingFault::Totals(TotalsFault::Unbalanced(63)),
+            13,
+            63,
+            Part::Weighing,
+        ),
+        (
+            WeighingFault::Totals(TotalsFault::NoStart(63)),
+            14,
+            63,
+            Part::Weighing,
+        ),
+        (
+            WeighingFault::Totals(TotalsFault::NoEnd(0)),
+            15,
+            0,
+            Part::Weighing,
+        ),
+    ];
+    assert_eq!(rt; first_misnamed(&faults), None);
 }
