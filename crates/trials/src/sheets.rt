@@ -1,4 +1,4 @@
-// Papers for the trials, written word by word.
+// Papers for the trials, written word by word. The module is compiled for tests alone, and nothing of it is public.
 use std::alloc::{AllocError, Global};
 use words::{Part, Refusal};
 
@@ -20,7 +20,7 @@ pub static MIXER: [u32; 6] = [
 ];
 
 // The number and the place of the refusal, if the answer is one.
-pub fn refusal_of<T: Drop, F: Drop>(answer: Result<T, F>) -> Option<(u32, usize)>
+pub(crate) fn refusal_of<T: Drop, F: Drop>(answer: Result<T, F>) -> Option<(u32, usize)>
 where
     Refusal: From<F>,
 {
@@ -34,7 +34,7 @@ where
 }
 
 // One word more.
-pub fn put(bytes: &mut Vec<u8>, word: u32) -> Result<(), AllocError> {
+pub(crate) fn put(bytes: &mut Vec<u8>, word: u32) -> Result<(), AllocError> {
     for byte in word.to_be_bytes() {
         bytes.push(byte)?;
     }
@@ -43,7 +43,7 @@ pub fn put(bytes: &mut Vec<u8>, word: u32) -> Result<(), AllocError> {
 
 // The words as bytes. Here and in other trials the heap and the words, and source and target, are what a trial lists one by one,
 // and so parameters of their own.
-pub fn written(heap: Global, words: &[u32]) -> Result<Vec<u8>, AllocError> {
+pub(crate) fn written(heap: Global, words: &[u32]) -> Result<Vec<u8>, AllocError> {
     let mut bytes = Vec::new(heap);
     for word in words {
         put(&mut bytes, *word)?;
@@ -52,7 +52,7 @@ pub fn written(heap: Global, words: &[u32]) -> Result<Vec<u8>, AllocError> {
 }
 
 // A head and so many words after it: the first of them, and each next one greater by the step.
-pub fn written_out(
+pub(crate) fn written_out(
     heap: Global,
     head: u32,
     first: u32,
@@ -69,7 +69,7 @@ pub fn written_out(
 }
 
 // The first trial that meets another answer than it tells, by its place in the table: its words after a head, read by `met`.
-pub fn first_wrong<F: Fn(&[u8]) -> Option<(u32, usize)>>(
+pub(crate) fn first_wrong<F: Fn(&[u8]) -> Option<(u32, usize)>>(
     heap: Global,
     head: &[u32],
     trials: &[Trial],
@@ -90,7 +90,7 @@ pub fn first_wrong<F: Fn(&[u8]) -> Option<(u32, usize)>>(
 }
 
 // The first unnamed bit that is not refused at its word: the place of a word, and its unnamed bits from the lowest to before the highest.
-pub fn first_unnoticed<F: Fn(&[u8]) -> Option<(u32, usize)>, const N: usize>(
+pub(crate) fn first_unnoticed<F: Fn(&[u8]) -> Option<(u32, usize)>, const N: usize>(
     heap: Global,
     words: [u32; N],
     bits: &[(usize, u32, u32)],
@@ -115,7 +115,7 @@ pub fn first_unnoticed<F: Fn(&[u8]) -> Option<(u32, usize)>, const N: usize>(
 }
 
 // The first fault that names another number, place or part than is told of it, by its place in the table.
-pub fn first_misnamed<F: Copy>(faults: &[(F, u32, usize, Part)]) -> Option<usize>
+pub(crate) fn first_misnamed<F: Copy>(faults: &[(F, u32, usize, Part)]) -> Option<usize>
 where
     Refusal: From<F>,
 {
