@@ -25,7 +25,7 @@ impl<P: Plant> Plant for Narrowed<P> {
     }
 
     fn is_open(&self, valve: usize) -> bool {
-        self.below.is_open(valve) && !self.shut.get(valve).is_some_and(|&shut| shut)
+        !self.shut.get(valve).is_some_and(|&shut| shut) && self.below.is_open(valve)
     }
 
     // Two questions of the trait, alike but for the side they ask.

@@ -1,12 +1,11 @@
 // Which valves of a set can be set going from a filling, one after another.
-ghost use Rattle.std.specs.Prelude.{◌≡◌, ℕ, ◌<◌, ◌≤◌, true, false, ◌||◌, ◌==◌, MatchBool};
+ghost use Rattle.std.specs.Prelude.{◌≡◌, ℕ, ◌<◌, ◌≤◌, true, false, ◌||◌, ◌==◌, nat_lt, MatchBool};
 ghost use Rattle.plant.specs.Walk.{held};
 ghost use Rattle.walks.specs.Rounds.{next, greatest};
 ghost use Rattle.starting.specs.Starting.{marked, TellsGiven, Within, left_out};
 
 use plant::limits::{MOST_TANKS, MOST_VALVES};
 use plant::{Plant, ValveSet};
-use std::array;
 
 // A set of tanks: the tanks whose place holds true.
 type TankSet = [bool; MOST_TANKS];
@@ -52,6 +51,18 @@ impl<'a, P: Plant> Going<'a, P> {
             })
     }
 
+    // The tanks that are given to once a valve goes. The plant's own tanks alone are asked about, which spares most
+    // of the table where a plant has few; so a `for` by number, since a table made by `from_fn` is asked for whole.
+    fn given_with(&self, valve: usize) -> TankSet
+        ensures { (r : ℕ) → marked result r ≡ (marked self.now.given r || nat_lt 0 ((P.Plant.meaning self.now.plant.now).outlet valve r)) }
+    {
+        let mut given = self.given;
+        for tank in 0..self.plant.counts().tanks {
+            given[tank] = given[tank] || self.plant.outlet(valve, tank) > 0;
+        }
+        given
+    }
+
     // Lets a valve go that can.
     fn let_go(&mut self, valve: usize)
         requires inside { valve < (P.Plant.meaning self.old.plant.now).valves }
@@ -59,7 +70,7 @@ impl<'a, P: Plant> Going<'a, P> {
         ensures went { (t : ℕ) → marked self.new.went t ≡ (marked self.old.went t || t == valve) }
         ensures asked { (self.new.plant ≡ self.old.plant) × (self.new.filling ≡ self.old.filling) × (self.new.set ≡ self.old.set) }
     {
-        self.given = array::from_fn(|tank| self.given[tank] || self.plant.outlet(valve, tank) > 0);
+        self.given = self.given_with(valve);
         self.went[valve] = true;
     }
 
@@ -109,6 +120,7 @@ pub fn first_left_out<P: Plant>(plant: &P, filling: &[u32], set: &ValveSet) -> O
 mod tests {
     use super::*;
     use plant::{Narrowed, RingMain, Turned};
+    use std::array;
 
     fn set_of(valves: &[usize]) -> ValveSet {
         array::from_fn(|valve| valves.contains(&valve))

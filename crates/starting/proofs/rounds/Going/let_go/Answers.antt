@@ -1,7 +1,6 @@
-use Rattle.std.proofs.Common.{◌||◌, ltb, false, arith, rules, tests}
+use Rattle.std.proofs.Common.{arith}
 use Rattle.plant.specs.Walk.{held}
 use Rattle.starting.specs.Starting.{marked}
-use Rattle.walks.proofs.Ranges.{made_at}
 use Rattle.starting.proofs.Sweeps.{set_joins, tells_joined, within_joined}
 use Rattle.starting.proofs.rounds.Going.let_go.Goals as goal
 
@@ -12,11 +11,9 @@ pub invariant_of-self : goal.invariant_of-self
 invariant_of-self g c =
     let s = c.args.self.now in
     let N = g.P.Plant.meaning s.plant.now in
-    let bounded = g.P.Plant.bounded s.plant.now in
-    let joins = set_joins s.went c.args.valve (omega (arith, bounded.few_valves)) in
-    let given = made_at (λ r. marked s.given r || ltb 0 (N.outlet c.args.valve r)) c.from_fn-self.ensures.items (λ x b q k. search (rules, tests)) in
+    let joins = set_joins s.went c.args.valve (omega (arith, (g.P.Plant.bounded s.plant.now).few_valves)) in
     record {
-      told = tells_joined N _ _ c.args.valve joins c.requires.inside _ _ s.told (λ r l. given r false (omega (arith, bounded.few_tanks, c.from_fn-self.ensures.items.long)));
+      told = tells_joined N _ _ c.args.valve joins c.requires.inside _ _ s.told (λ r l. c.given_with-self.ensures r);
       within = within_joined N (held s.filling.now) (marked s.set.now) _ _ c.args.valve joins c.requires.inside c.requires.can s.within;
     }
 
