@@ -111,7 +111,7 @@ formed tanks valves (w ∷ ws) e n u some few p q =
     let d = said ws in
     let cs = d.lines ∷ d.cases in
     let none = nil_from_length d.matches f.tail.matched in
-    let counts : e.lines.items ≡ map length cs = f.body.counted ∙ rw zero-add in
+    let counts : e.lines ≡ map length cs = f.body.counted ∙ rw zero-add in
     let words_are : w ∷ ws ≡ barrier_words (record { cases = cs; steps = d.steps }) = ap (λ vs. w ∷ vs) (sym r.1) ∙ sym (words_case w d b.0 f) ∙ rw (b.0.kind_is, none) in
     rw b.0.kind_is (
       record {

@@ -43,5 +43,5 @@ words_more counts s w t d (a_case i h few e) f = words_case w d h (rw e at f)
 words_more counts s w t d (a_line i h few e) f = words_line w d h
 words_more counts s w t d (a_left least i h e) f = words_left s.counts.tanks least w d h
 words_more counts s w t d (a_right least i h e) f = words_right w d s.counts.tanks least (field w 22 6 + 1) h (rw e at f)
-words_more counts s w t d (a_step b h e) f = words_step w d (length s.lines.items) s.counts.valves (pending s.phase).least (after_step s w) h (rw e at f)
+words_more counts s w t d (a_step b h e) f = words_step w d (length s.lines) s.counts.valves (pending s.phase).least (after_step s w) h (rw e at f)
 words_more counts s w t d (a_match b h e) f = words_match w d (after_match (pending s.phase)) (pending s.phase).lines h (rw e at f)

@@ -48,7 +48,7 @@ pub record Front (counts : List ℕ) (ph : Phase) (s : BarrierForm) (d : Said) :
   pub lefts_fit : Weights s.counts.tanks (lefts_from ph) d.lefts
   pub rights_fit : Weights s.counts.tanks (rights_from ph) d.rights
   pub in_case : InCase ph ⊎ ((d.lines ≡ []) × (d.cases ≡ []))
-  pub body : Body counts s.counts.tanks s.lines.items d.lines d.cases
+  pub body : Body counts s.counts.tanks s.lines d.lines d.cases
   pub tail : Tail (pending ph) d.matches d.steps
   pub steps_fit : AllByRecursion (StepCounted s.counts.valves counts) d.steps
 
@@ -135,7 +135,7 @@ module _ (counts : List ℕ) (ph : Phase) (s : BarrierForm) (sound : Sound s) (w
     lefts_fit = no_weights s.counts.tanks (lefts_from ph);
     rights_fit = no_weights s.counts.tanks (rights_from ph);
     in_case = inl i;
-    body = case_more counts s.counts.tanks s.lines.items d.lines d.cases (sound.few _) f.body;
+    body = case_more counts s.counts.tanks s.lines d.lines d.cases (sound.few _) f.body;
     tail = rw (none_in_case ph i) f.tail;
     steps_fit = f.steps_fit;
   })
@@ -145,7 +145,7 @@ module _ (counts : List ℕ) (ph : Phase) (s : BarrierForm) (sound : Sound s) (w
     lefts_fit = no_weights s.counts.tanks (lefts_from ph);
     rights_fit = no_weights s.counts.tanks (rights_from ph);
     in_case = inl i;
-    body = line_more counts s.counts.tanks s.lines.items _ d.lines d.cases sound.some_cases (record { lefts_fit = f.lefts_fit.0; lefts_rise = f.lefts_fit.1; rights_fit = f.rights_fit.0; rights_rise = f.rights_fit.1 }) f.body;
+    body = line_more counts s.counts.tanks s.lines _ d.lines d.cases sound.some_cases (record { lefts_fit = f.lefts_fit.0; lefts_rise = f.lefts_fit.1; rights_fit = f.rights_fit.0; rights_rise = f.rights_fit.1 }) f.body;
     tail = rw (none_in_case ph i) f.tail;
     steps_fit = f.steps_fit;
   })
@@ -174,7 +174,7 @@ module _ (counts : List ℕ) (ph : Phase) (s : BarrierForm) (sound : Sound s) (w
         steps_fit = f.steps_fit;
       })
 
-  front_step : Between ph → StepWord (length s.lines.items) s.counts.valves (pending ph).least w → let p = after_step s w in Front counts (waiting p) (in_phase (waiting p) s) d → Front counts ph s (say w d)
+  front_step : Between ph → StepWord (length s.lines) s.counts.valves (pending ph).least w → let p = after_step s w in Front counts (waiting p) (in_phase (waiting p) s) d → Front counts ph s (say w d)
   front_step b h f =
       let no = bare counts _ d (after_step s w) f in
       let t = waits_tail (after_step s w) d.matches d.steps f.tail in

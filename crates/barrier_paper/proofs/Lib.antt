@@ -13,3 +13,4 @@ pub mod Blocks
 pub mod Parts
 pub mod Named
 pub mod Chains
+pub mod Tables

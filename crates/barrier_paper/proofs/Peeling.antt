@@ -124,7 +124,7 @@ module _ (counts : List ℕ) (s : BarrierForm) (sound : Sound s) where
           lefts_fit = (fit.lefts_fit, fit.lefts_rise);
           rights_fit = (fit.rights_fit, fit.rights_rise);
           in_case = inl tt;
-          body = line_less counts s.counts.tanks s.lines.items l lines cases sound.some_cases f.body;
+          body = line_less counts s.counts.tanks s.lines l lines cases sound.some_cases f.body;
           tail = rw (none_in_case s.phase i) at f.tail;
           steps_fit = f.steps_fit;
         };
@@ -143,7 +143,7 @@ module _ (counts : List ℕ) (s : BarrierForm) (sound : Sound s) where
           lefts_fit = refl;
           rights_fit = refl;
           in_case = inl tt;
-          body = case_less counts s.counts.tanks s.lines.items c cases f.body;
+          body = case_less counts s.counts.tanks s.lines c cases f.body;
           tail = rw (none_in_case s.phase i) at f.tail;
           steps_fit = f.steps_fit;
         };
@@ -189,7 +189,7 @@ module _ (counts : List ℕ) (s : BarrierForm) (sound : Sound s) where
         word = h;
         next = in_phase (waiting p) s;
         after = saying [] [] [] [] st.matches ss;
-        took = a_step (none_between s.phase sound.begun (sym t.matched)) (step_good (length s.lines.items) s.counts.valves (pending s.phase).least st few from fit.valve_there fit.valve_small to t.steps_rise.0) refl;
+        took = a_step (none_between s.phase sound.begun (sym t.matched)) (step_good (length s.lines) s.counts.valves (pending s.phase).least st few from fit.valve_there fit.valve_small to t.steps_rise.0) refl;
         front = record {
           lefts_fit = no_weights s.counts.tanks _;
           rights_fit = no_weights s.counts.tanks _;

@@ -15,9 +15,9 @@ use Rattle.barrier_paper.proofs.Taking.{pending, Begun, Taken, a_case, a_line, a
 pub record Sound (s : BarrierForm) : Type 0 where
   pub begun : Begun s.phase
   pub few_named : (pending s.phase).lines ≤ most_lines
-  pub some_cases : 1 ≤ length s.lines.items
-  pub few_cases : length s.lines.items ≤ most_cases
-  pub few : (i : ℕ) → get_or s.lines.items i 0 ≤ most_lines
+  pub some_cases : 1 ≤ length s.lines
+  pub few_cases : length s.lines ≤ most_cases
+  pub few : (i : ℕ) → get_or s.lines i 0 ≤ most_lines
 
 -- a phase that waits for matches is one of two
 pub waits : (p : Pending) (P : Phase → Type 0) → (p.matches ≡ 0 → P (Steps p.least)) → (1 ≤ p.matches → P (Matches p)) → P (waiting p)
@@ -43,18 +43,18 @@ set_few table i j v old new h =
 
 pub sound_kept : (s : BarrierForm) (w : ℕ) (t : BarrierForm) → Taken s.phase s w t → Sound s → Sound t
 sound_kept s w t (a_case i c few e) h =
-    let n = length_push s.lines.items 0 in
-    rw e (record { begun = tt; few_named = omega arith; some_cases = omega arith; few_cases = omega arith; few = λ i. push_few s.lines.items i h.few })
+    let n = length_push s.lines 0 in
+    rw e (record { begun = tt; few_named = omega arith; some_cases = omega arith; few_cases = omega arith; few = λ i. push_few s.lines i h.few })
 sound_kept s w t (a_line i l few e) h =
-    let k = last s.lines.items in
-    let more = get_or s.lines.items k 0 + 1 in
-    let n = length-set s.lines.items k more in
+    let k = last s.lines in
+    let more = get_or s.lines k 0 + 1 in
+    let n = length-set s.lines k more in
     rw e (record {
       begun = tt;
       few_named = omega arith;
       some_cases = omega (arith, n, h.some_cases);
       few_cases = omega (arith, n, h.few_cases);
-      few = λ j. set_few s.lines.items k j more (h.few j) (omega arith) (omega (arith, h.some_cases));
+      few = λ j. set_few s.lines k j more (h.few j) (omega arith) (omega (arith, h.some_cases));
     })
 sound_kept s w t (a_left least i x e) h = rw e (in_phase_sound s _ h tt (omega arith))
 sound_kept s w t (a_right least i x e) h = rw e (in_phase_sound s _ h tt (omega arith))

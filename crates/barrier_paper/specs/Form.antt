@@ -14,7 +14,7 @@ use Rattle.barrier_paper.specs.Limits.{most_cases, most_lines, most_line_weight}
 use Rattle.barrier_paper.specs.Document.{BarrierDocument, barrier_document}
 
 abbrev pub start : ℕ → ℕ → BarrierForm
-start tanks valves = record { counts = record { tanks = tanks; valves = valves }; phase = Start; lines = record { items = [] } }
+start tanks valves = record { counts = record { tanks = tanks; valves = valves }; phase = Start; lines = [] }
 
 -- the same form in another phase
 abbrev pub in_phase : Phase → BarrierForm → BarrierForm
@@ -22,12 +22,12 @@ in_phase phase s = record s { phase = phase }
 
 -- one more case, which has no line yet
 abbrev pub after_case : BarrierForm → BarrierForm
-after_case s = record s { phase = Case; lines = record { items = s.lines.items ++ 0 ∷ [] } }
+after_case s = record s { phase = Case; lines = s.lines ++ 0 ∷ [] }
 
 abbrev pub case : BarrierForm → ℕ → ℕ → Result BarrierForm PaperFault
 case s at w =
     need (field w 0 28 == 0) (Unnamed at) (
-    need (nat_lt (length s.lines.items) most_cases) (Count at) (
+    need (nat_lt (length s.lines) most_cases) (Count at) (
     Ok (after_case s)))
 
 -- so many more lines for the last case
@@ -38,12 +38,12 @@ abbrev pub longer : List ℕ → ℕ → List ℕ
 longer table n = slice_set table (last table) (slice_index table (last table) + n)
 
 abbrev pub after_line : BarrierForm → BarrierForm
-after_line s = record s { phase = Left 0; lines = record { items = longer s.lines.items 1 } }
+after_line s = record s { phase = Left 0; lines = longer s.lines 1 }
 
 abbrev pub line : BarrierForm → ℕ → ℕ → Result BarrierForm PaperFault
 line s at w =
     need (field w 1 27 == 0) (Unnamed at) (
-    need (nat_lt (slice_index s.lines.items (last s.lines.items)) most_lines) (Count at) (
+    need (nat_lt (slice_index s.lines (last s.lines)) most_lines) (Count at) (
     Ok (after_line s)))
 
 -- what a weight word has to keep on a plant with so many tanks, its tank not below `least`
@@ -64,12 +64,12 @@ waiting p = cond (p.matches == 0) (Steps p.least) (Matches p)
 
 -- the matches of a step: one for each line of the case reached, naming a line of the case left
 abbrev pub after_step : BarrierForm → ℕ → Pending
-after_step s w = record { matches = slice_index s.lines.items (field w 13 4); lines = slice_index s.lines.items (field w 23 4); least = field w 17 11 + 1 }
+after_step s w = record { matches = slice_index s.lines (field w 13 4); lines = slice_index s.lines (field w 23 4); least = field w 17 11 + 1 }
 
 abbrev pub step : ℕ → BarrierForm → ℕ → ℕ → Result BarrierForm PaperFault
 step least s at w =
     need (field w 0 13 == 0) (Unnamed at) (
-    need (nat_lt (field w 23 4) (length s.lines.items) && (nat_lt (field w 17 6) s.counts.valves && nat_lt (field w 13 4) (length s.lines.items))) (Limit at) (
+    need (nat_lt (field w 23 4) (length s.lines) && (nat_lt (field w 17 6) s.counts.valves && nat_lt (field w 13 4) (length s.lines))) (Limit at) (
     need (nat_le least (field w 17 11)) (Order at) (
     Ok (in_phase (waiting (after_step s w)) s))))
 

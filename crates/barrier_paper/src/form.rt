@@ -1,10 +1,10 @@
 // The form of a barrier paper.
-ghost use Rattle.std.specs.Prelude.{◌≡◌, ℕ, slice_index};
+ghost use Rattle.std.specs.Prelude.{◌≡◌, ℕ};
 ghost use Rattle.barrier_paper.specs.Form as spec;
 ghost use Rattle.barrier_paper.specs.declared.form.Phase.{Phase as Phases};
 
-use crate::limits::{MOST_CASES, MOST_LINE_WEIGHT, MOST_LINES};
-use arrayvec::ArrayVec;
+use crate::limits::MOST_LINE_WEIGHT;
+use crate::line_counts::LineCounts;
 use paper::form::Form;
 use plant::Counts;
 use words::{Kind, PaperFault, Word};
@@ -42,11 +42,11 @@ impl Pending {
 }
 
 // The plant's counts, the phase, and how many lines each case has so far.
-#[derive(Debug, Drop)]
+#[derive(Clone, Copy, Debug)]
 pub struct BarrierForm {
     pub counts: Counts,
     pub phase: Phase,
-    pub lines: ArrayVec<usize, MOST_CASES>,
+    pub lines: LineCounts,
 }
 
 impl BarrierForm {
@@ -57,15 +57,8 @@ impl BarrierForm {
         BarrierForm {
             counts,
             phase: Phase::Start,
-            lines: ArrayVec::new(),
+            lines: LineCounts::new(),
         }
-    }
-
-    // How many lines a case has so far.
-    fn lines_of(&self, case: usize) -> usize
-        ensures { result ≡ slice_index self.now.lines.items case }
-    {
-        self.lines.get(case).copied().unwrap_or(0)
     }
 
     fn in_phase(self, phase: Phase) -> BarrierForm
@@ -75,32 +68,33 @@ impl BarrierForm {
     }
 
     // One more case, which has no line yet.
-    fn case(mut self, word: Word) -> Result<BarrierForm, PaperFault>
+    fn case(self, word: Word) -> Result<BarrierForm, PaperFault>
         ensures { result ≡ spec.case self word.place word.bits }
     {
         if word.field(0, 28) != 0 {
             return Err(PaperFault::Unnamed(word.place));
         }
-        self.lines
-            .try_push(0)
-            .map_err(|_| PaperFault::Count(word.place))?;
-        Ok(self.in_phase(Phase::Case))
+        let lines = self.lines.with_case().ok_or(PaperFault::Count(word.place))?;
+        Ok(BarrierForm {
+            phase: Phase::Case,
+            lines,
+            ..self
+        })
     }
 
     // One more line of the last case.
-    fn line(mut self, word: Word) -> Result<BarrierForm, PaperFault>
+    fn line(self, word: Word) -> Result<BarrierForm, PaperFault>
         ensures { result ≡ spec.line self word.place word.bits }
     {
         if word.field(1, 27) != 0 {
             return Err(PaperFault::Unnamed(word.place));
         }
-        if let Some(count) = self.lines.last_mut() {
-            if *count >= MOST_LINES {
-                return Err(PaperFault::Count(word.place));
-            }
-            *count += 1;
-        }
-        Ok(self.in_phase(Phase::Left(0)))
+        let lines = self.lines.with_line().ok_or(PaperFault::Count(word.place))?;
+        Ok(BarrierForm {
+            phase: Phase::Left(0),
+            lines,
+            ..self
+        })
     }
 
     // What refuses a weight word. `least` is the phase's, the word the reader's: two parameters, here and below.
@@ -153,8 +147,8 @@ impl BarrierForm {
             return Err(PaperFault::Order(word.place));
         }
         let pending = Pending {
-            matches: self.lines_of(to),
-            lines: self.lines_of(from),
+            matches: self.lines.get(to),
+            lines: self.lines.get(from),
             least: key + 1,
         };
         Ok(self.in_phase(pending.phase()))

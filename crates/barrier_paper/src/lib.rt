@@ -5,6 +5,7 @@ pub mod barrier_paper;
 pub mod exact;
 pub mod form;
 pub mod limits;
+pub mod line_counts;
 pub mod step_words;
 pub mod weights;
 pub mod windows;

@@ -18,6 +18,9 @@ use Rattle.barrier_paper.proofs.barrier_paper.BarrierPaper.read.Goals.{In_ok-for
 runs : (c : In_ok-form) → Ok c.in_ok-form.form ≡ whole barrier_step (start c.args.counts.tanks c.args.counts.valves) most_evidence_words c.args.bytes.now
 runs c = c.in_ok-form.ensures ∙ ap (λ s. whole barrier_step s most_evidence_words c.args.bytes.now) c.start.ensures
 
+pub returns-clause-document : goal.returns-clause-document
+returns-clause-document c = rw (← runs (goal.at.returns-clause-document c).In_ok-form, length_words c.args.bytes.now, ← c.in_ok-end.ensures)
+
 pub returns-in_err-end-clause-document : goal.returns-in_err-end-clause-document
 returns-in_err-end-clause-document c =
     let p = err_from_is_err_and c.from_residual-in_err-end.result c.from_residual-in_err-end.ensures.1 in
