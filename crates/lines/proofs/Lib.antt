@@ -1,3 +1,4 @@
-pub mod Tabling
 pub mod Adding
+pub mod Filling
 pub mod OfValve
+pub mod Tabling

@@ -4,9 +4,8 @@ ghost use Rattle.plant.specs.Limits.{most_tanks};
 ghost use Rattle.lines.specs.Tables.{Tabulates};
 
 use crate::amounts::Table;
-use plant::limits::MOST_WEIGHT;
+use plant::limits::{MOST_TANKS, MOST_WEIGHT};
 use plant::{Plant, Turned};
-use std::array;
 
 #[derive(Clone, Copy)]
 pub struct ValveWeights {
@@ -16,21 +15,16 @@ pub struct ValveWeights {
     ghost few_tanks: { tanks ≤ most_tanks },
 }
 
-// What a valve takes from each tank. A tank beyond the plant's has no weight: to ask of the plant's own alone spares most
-// questions where it has few.
+// What a valve takes from each tank. A `for` by number, and no table made by `from_fn`: a tank beyond the plant's has no weight,
+// and where a plant has few tanks most of the table is not gone through.
 fn intake_table<P: Plant>(plant: &P, valve: usize) -> Table<MOST_WEIGHT>
     ensures { Tabulates result.each ((P.Plant.meaning plant.now).intake valve) }
 {
-    let tanks = plant.counts().tanks;
-    Table {
-        each: array::from_fn(|tank| {
-            if tank < tanks {
-                u32::from(plant.intake(valve, tank))
-            } else {
-                0
-            }
-        }),
+    let mut each = [0; MOST_TANKS];
+    for tank in 0..plant.counts().tanks {
+        each[tank] = u32::from(plant.intake(valve, tank));
     }
+    Table { each }
 }
 
 impl ValveWeights {
