@@ -73,17 +73,19 @@ impl LineCounts {
         Some(self)
     }
 
-    // With one more line of the last case, where there is room for it.
+    // With one more line of the last case, where there is room for it; the same where there is no case.
     pub fn with_line(mut self) -> Option<LineCounts>
         ensures { result ≡ cond (nat_lt (slice_index self (last self)) most_lines) (Some (longer self 1)) None }
     {
-        if self.cases > 0 {
-            let count = self.table[self.cases - 1];
-            if usize::from(count) >= MOST_LINES {
-                return None;
-            }
-            self.table[self.cases - 1] = count + 1;
+        if self.cases == 0 {
+            return Some(self);
         }
+        let last = self.cases - 1;
+        let count = self.table[last];
+        if usize::from(count) >= MOST_LINES {
+            return None;
+        }
+        self.table[last] = count + 1;
         Some(self)
     }
 }
