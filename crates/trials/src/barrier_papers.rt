@@ -5,7 +5,7 @@ use crate::sheets::{
 use barrier_paper::BarrierPaper;
 use barrier_paper::step_words::{MatchWord, StepWord};
 use barrier_paper::weights::line_weights;
-use barrier_paper::windows::{count_kind, line, part_of};
+use barrier_paper::windows::{count_kind, line, part_of, seek};
 use lines::Way;
 use plant::Counts;
 use std::alloc::{AllocError, Global};
@@ -508,6 +508,17 @@ fn lines_of_a_case(rt: HostRuntime) -> Result<(), Fail> {
     assert_eq!(rt; line(&bytes[0..20], 2).len(), 0);
     assert_eq!(rt; part_of(&bytes[24..40], Kind::Step), &bytes[24..28]);
     Ok(())
+}
+
+// Of bytes without the word that is sought, what is left over after the words is handed out.
+#[test]
+fn parts_of_broken_words(rt: HostRuntime) {
+    let bytes = [0x60, 0, 0, 0, 0xaa, 0xbb, 0xcc];
+    for length in 4..8 {
+        let left_over = &bytes[4..length];
+        assert_eq!(rt; seek(&bytes[0..length], Kind::Step, 0), left_over);
+        assert_eq!(rt; line(&bytes[0..length], 0), left_over);
+    }
 }
 
 // The weights of a line: a tank without a weight has 0.
