@@ -22,8 +22,7 @@ pub fn count_kind<K: Into<u32>>(bytes: &[u8], kind: K) -> usize
     words.iter().filter(|word| kind_of(word) == number).count()
 }
 
-// The part from word number n of a kind on, counted from 0. Where there is none, what is left over after the words: fewer than four bytes,
-// and so no word.
+// The part from word number n of a kind on, counted from 0; where there is none, what is left over after the words, which is no word.
 pub fn seek<K: Into<u32>>(bytes: &[u8], kind: K, n: usize) -> &[u8]
     ensures { (k : ℕ) × K.converts kind k × (words result.now ≡ spec.from_nth k n (words bytes.now)) }
 {
@@ -65,7 +64,7 @@ pub fn part_of<K: Into<u32>>(bytes: &[u8], kind: K) -> &[u8]
     }
 }
 
-// Line l of a case; where there is none, what is left over after the words.
+// Line l of a case; where there is none, what is left over after the words, as by `seek`.
 pub fn line(case: &[u8], l: usize) -> &[u8]
     ensures { words result.now ≡ spec.line_part l (words case.now) }
 {
