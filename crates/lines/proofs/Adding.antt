@@ -3,12 +3,11 @@ use Rattle.std.proofs.Common.{◌≡◌, ℕ, zero, suc, ◌+◌, ◌*◌, ◌<�
 use lib.IntN.{zero-*ℤ, +ℤ_idr}
 use Rattle.std.specs.List.{zip}
 use Rattle.std.specs.Slice.Iter.{iter_rest}
-use Rattle.std.specs.Iterator.Adapters.{take_source, take_count, take_steps, zip_first, zip_second}
-use Rattle.std.specs.declared.iter.Take.{Take}
+use Rattle.std.specs.Iterator.Adapters.{zip_first, zip_second}
 use Rattle.std.specs.declared.iter.Zip.{Zip}
 use Rattle.std.specs.declared.slice.Iter.{Iter}
 use Rattle.std.proofs.iter.Yields.{fronts}
-use Rattle.std.proofs.lemmas.Iterator.{YieldsList, YieldsList-from_slice, YieldsList-from_zip, YieldsList-from_take, zips}
+use Rattle.std.proofs.lemmas.Iterator.{YieldsList, YieldsList-from_slice, YieldsList-from_zip, zips}
 use Rattle.std.proofs.lemmas.List.{get_or_past, get_or_read, get_or-take, length-take}
 use Rattle.std.proofs.lemmas.Slice.Zip.{length-zip, get_or-zip}
 use Rattle.std.proofs.lemmas.Int.{ints, unsigned_abs-mul}
@@ -43,22 +42,38 @@ module _ (ws : List ℤ) (xs : List ℕ) (n : ℕ) (lw : length ws ≡ most_tank
   abbrev weight : ℕ → ℤ
   weight = weight_at ws
 
-  -- the pairs that the loop meets
-  pub pairs : {s : Take (Zip (Iter ℤ) (Iter ℕ))} → iter_rest (zip_first (take_source s)) ≡ ws → iter_rest (zip_second (take_source s)) ≡ xs → take_count s ≡ n
-      → YieldsList (take_steps (zips fronts fronts)) (λ (p : Bor ℤ × Bor ℕ). (p.0.now, p.1.now)) s (take n (zip ws xs))
-  pairs es ex en = YieldsList-from_take n (YieldsList-from_zip (YieldsList-from_slice ws es) (YieldsList-from_slice xs ex)) en
+  -- so many tanks of the tables, and the pairs that the loop meets
+  abbrev tanks : ℕ
+  tanks = min n most_tanks
 
-  length_pairs : length (take n (zip ws xs)) ≡ min n most_tanks
-  length_pairs = length-take n (zip ws xs) ∙ rw (length-zip ws xs, lw, lx) refl
+  abbrev pub met : List (ℤ × ℕ)
+  met = zip (take tanks ws) (take tanks xs)
 
-  pair_at : (k : ℕ) (w : ℤ) (a : ℕ) → (k < length (take n (zip ws xs))) × ◌≡◌ {A = ℤ × ℕ} (w, a) (get_or (take n (zip ws xs)) k (w, a)) → (k < most_tanks) × (w ≡ weight k) × (a ≡ held xs k)
+  pub pairs : {s : Zip (Iter ℤ) (Iter ℕ)} → iter_rest (zip_first s) ≡ take tanks ws → iter_rest (zip_second s) ≡ take tanks xs
+      → YieldsList (zips fronts fronts) (λ (p : Bor ℤ × Bor ℕ). (p.0.now, p.1.now)) s met
+  pairs es ex = YieldsList-from_zip (YieldsList-from_slice (take tanks ws) es) (YieldsList-from_slice (take tanks xs) ex)
+
+  long_weights : length (take tanks ws) ≡ tanks
+  long_weights = rw (length-take tanks ws, lw) (omega arith)
+
+  long_amounts : length (take tanks xs) ≡ tanks
+  long_amounts = rw (length-take tanks xs, lx) (omega arith)
+
+  length_pairs : length met ≡ tanks
+  length_pairs = rw (length-zip (take tanks ws) (take tanks xs), long_weights, long_amounts) (omega arith)
+
+  pair_at : (k : ℕ) (w : ℤ) (a : ℕ) → (k < length met) × ◌≡◌ {A = ℤ × ℕ} (w, a) (get_or met k (w, a)) → (k < most_tanks) × (w ≡ weight k) × (a ≡ held xs k)
   pair_at k w a (l, e) =
-      let few : k < min n most_tanks = rw length_pairs at l in
-      let same : ◌≡◌ {A = ℤ × ℕ} (w, a) (get_or ws k w, get_or xs k a) = e ∙ get_or-take n (zip ws xs) k (w, a) (omega arith) ∙ get_or-zip ws xs k (w, a) (omega arith) (omega arith) in
-      (omega arith, get_or_read ws k w (omega arith) (ap (λ (p : ℤ × ℕ). p.0) same) (pos 0), get_or_read xs k a (omega arith) (ap (λ (p : ℤ × ℕ). p.1) same) 0)
+      let few : k < tanks = rw length_pairs at l in
+      let same : ◌≡◌ {A = ℤ × ℕ} (w, a) (get_or (take tanks ws) k w, get_or (take tanks xs) k a) = e ∙ get_or-zip (take tanks ws) (take tanks xs) k (w, a) (rw long_weights few) (rw long_amounts few) in
+      (
+        omega arith,
+        get_or_read ws k w (omega arith) (ap (λ (p : ℤ × ℕ). p.0) same ∙ get_or-take tanks ws k w few) (pos 0),
+        get_or_read xs k a (omega arith) (ap (λ (p : ℤ × ℕ). p.1) same ∙ get_or-take tanks xs k a few) 0,
+      )
 
   -- after all of them
-  pub side_all : (m : Marking) (k : ℕ) → k ≡ length (take n (zip ws xs)) → Tabulates xs m → side weight (held xs) k ≡ side weight m n
+  pub side_all : (m : Marking) (k : ℕ) → k ≡ length met → Tabulates xs m → side weight (held xs) k ≡ side weight m n
   side_all m k e same =
       ap (side weight (held xs)) (e ∙ length_pairs)
       ∙ side_same weight (held xs) m (min n most_tanks) (λ r l. same r (omega arith))
@@ -70,10 +85,10 @@ module _ (ws : List ℤ) (xs : List ℕ) (n : ℕ) (lw : length ws ≡ most_tank
         let more : k * (most_weight_sum * most) ≤ most_tanks * (most_weight_sum * most) = mul-le-mul few (omega arith) in
         omega (arith, side_small weight (held xs) most_weight_sum most k (λ r l. hw r) (λ r l. hx r))
 
-    pub small_all : (k : ℕ) → k ≡ length (take n (zip ws xs)) → nat_abs (side weight (held xs) k) ≤ most_tanks * (most_weight_sum * most)
+    pub small_all : (k : ℕ) → k ≡ length met → nat_abs (side weight (held xs) k) ≤ most_tanks * (most_weight_sum * most)
     small_all k e = let l = length_pairs in small k (omega arith)
 
-    pub turn : most ≤ most_amount → (k : ℕ) (w f h sum : ℤ) (a : ℕ) → (k < length (take n (zip ws xs))) × ◌≡◌ {A = ℤ × ℕ} (w, a) (get_or (take n (zip ws xs)) k (w, a))
+    pub turn : most ≤ most_amount → (k : ℕ) (w f h sum : ℤ) (a : ℕ) → (k < length met) × ◌≡◌ {A = ℤ × ℕ} (w, a) (get_or met k (w, a))
         → f ≡ to_z w32 (of_z w32 w) → h ≡ pos a → sum ≡ side weight (held xs) k → Turn ws xs k sum f h
     turn few k w f h sum a at is_f is_h so_far = record { mul_fits = rw term (omega (arith, ints, term_small)); add_fits = rw next (omega (arith, ints, there)); next = rw next (omega (arith, ints, there)) }
       where

@@ -41,8 +41,9 @@ impl Weights {
         ensures is { (m : Marking) → Tabulates amounts.now.each m → result ≡ side (weight_at self.now.each) m tanks }
         ensures small { unsigned_abs result ≤ most_tanks * (most_weight_sum * MOST) }
     {
+        let tanks = tanks.min(MOST_TANKS);
         let mut sum = 0;
-        for (weight, amount) in self.each.iter().zip(&amounts.each).take(tanks) {
+        for (weight, amount) in self.each[..tanks].iter().zip(&amounts.each[..tanks]) {
             sum += i64::from(*weight) * i64::from(*amount);
         }
         sum

@@ -12,7 +12,7 @@ this_turn g c =
     let lw : length ws.each ≡ most_tanks = search rules in
     let lx : length xs.each ≡ most_tanks = search rules in
     turn _ _ c.args.tanks lw lx _ ws.small xs.small xs.most_small _ _ _ _ _ _
-    (YieldsList-turn (pairs ws.each xs.each c.args.tanks lw lx {s = c.into_iter-weight-iterator.result} (cc) (cc) (cc)) _ c.loop-weight.weight-iterator c.loop-weight.yielded_by _ c.next.new.self _ c.in-Some.is c.next.ensures.steps)
+    (YieldsList-turn (pairs ws.each xs.each c.args.tanks lw lx {s = c.into_iter-weight-iterator.result} (cc) (cc)) _ c.loop-weight.weight-iterator c.loop-weight.yielded_by _ c.next.new.self _ c.in-Some.is c.next.ensures.steps)
     c.from.ensures c.from-in-loop-weight.ensures c.loop-weight.invariant
 
 pub overflow_mul-sum : goal.overflow_mul-sum
@@ -30,7 +30,7 @@ returns g c =
     let xs = c.args.amounts.now in
     let lw : length ws.each ≡ most_tanks = search rules in
     let lx : length xs.each ≡ most_tanks = search rules in
-    let end = YieldsList-end (pairs ws.each xs.each c.args.tanks lw lx {s = c.into_iter-weight-iterator.result} (cc) (cc) (cc)) _ c.loop-weight.weight-iterator c.loop-weight.yielded_by _ c.next.new.self c.in-None.is c.next.ensures.steps in
+    let end = YieldsList-end (pairs ws.each xs.each c.args.tanks lw lx {s = c.into_iter-weight-iterator.result} (cc) (cc)) _ c.loop-weight.weight-iterator c.loop-weight.yielded_by _ c.next.new.self c.in-None.is c.next.ensures.steps in
     record {
       is = λ m same. c.loop-weight.invariant ∙ side_all ws.each xs.each c.args.tanks lw lx m _ end.1 same;
       small = rw c.loop-weight.invariant (small_all ws.each xs.each c.args.tanks lw lx _ ws.small xs.small _ end.1);
