@@ -65,8 +65,7 @@ module _ (ws : List ℤ) (xs : List ℕ) (n : ℕ) (lw : length ws ≡ most_tank
   pair_at : (k : ℕ) (w : ℤ) (a : ℕ) → (k < length met) × ◌≡◌ {A = ℤ × ℕ} (w, a) (get_or met k (w, a)) → (k < most_tanks) × (w ≡ weight k) × (a ≡ held xs k)
   pair_at k w a (l, e) =
       let few : k < tanks = rw length_pairs at l in
-      let same : ◌≡◌ {A = ℤ × ℕ} (w, a) (get_or (take tanks ws) k w, get_or (take tanks xs) k a) = e ∙ get_or-zip (take tanks ws) (take tanks xs) k (w, a) (rw long_weights few) (rw long_amounts few) in
-      (
+      let same : ◌≡◌ {A = ℤ × ℕ} (w, a) (get_or (take tanks ws) k w, get_or (take tanks xs) k a) = e ∙ get_or-zip (take tanks ws) (take tanks xs) k (w, a) (rw long_weights few) (rw long_amounts few) in (
         omega arith,
         get_or_read ws k w (omega arith) (ap (λ (p : ℤ × ℕ). p.0) same ∙ get_or-take tanks ws k w few) (pos 0),
         get_or_read xs k a (omega arith) (ap (λ (p : ℤ × ℕ). p.1) same ∙ get_or-take tanks xs k a few) 0,

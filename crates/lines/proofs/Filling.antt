@@ -1,9 +1,8 @@
 -- A loop that writes a table, tank by tank.
-use Rattle.std.proofs.Common.{◌≡◌, ℕ, zero, suc, ◌+◌, ◌<◌, ◌≤◌, ◌≢◌, List, length, get_or, set, replicate, sym, refl, ◌∙◌, ⊎_elim, arith, length-set, get_or-set_other, get_or-set_same}
-use Rattle.std.proofs.lemmas.Bool.{cases_eq, cases_lt}
+use Rattle.std.proofs.Common.{◌≡◌, ℕ, zero, suc, ◌+◌, ◌<◌, ◌≤◌, ◌≢◌, List, length, get_or, set, replicate, refl, ◌∙◌, ⊎_elim, arith, length-set, get_or-set_other, get_or-set_same}
+use Rattle.std.proofs.lemmas.Bool.{cases_eq}
 use Rattle.plant.specs.Limits.{most_tanks}
 use Rattle.plant.specs.Walk.{Marking}
-use Rattle.lines.specs.Tables.{Tabulates}
 
 -- the first n places are written, the others still 0
 pub record Written (xs : List ℕ) (m : Marking) (n : ℕ) : Type 0 where
