@@ -14,7 +14,7 @@ use Rattle.words.specs.Placed.{placed}
 use Rattle.words.proofs.Placing.{all_to_come}
 use Rattle.words.proofs.Laws.{words_drop}
 use Rattle.paper.proofs.Chunks.{word_of, chunks, words_chunks}
-use Rattle.barrier_paper.specs.Windows.{from_nth, before, count_kind}
+use Rattle.barrier_paper.specs.Windows.{from_nth, before}
 use Rattle.barrier_paper.proofs.Seeking.{seek_pass, seek_count, seek_found, before_le}
 
 -- a reader that stands at the first word gives all
@@ -34,18 +34,6 @@ placed_of_kind k p = of_kind k p.1
 
 chunked : (bs : List ℕ) (cs : List (List ℕ)) → cs ≡ chunks bs → map word_of cs ≡ words bs
 chunked bs cs e = ap (map word_of) e ∙ sym (words_chunks bs)
-
-count_chunks : (k : ℕ) (cs : List (List ℕ)) → length (filter (of_kind k) cs) ≡ count_kind k (map word_of cs)
-count_chunks k [] = refl
-count_chunks k (c ∷ cs) =
-    let more = count_chunks k cs in
-    elim (eqb (kind (word_of c)) k) as (λ b. length (cond b (c ∷ filter (of_kind k) cs) (filter (of_kind k) cs)) ≡ cond b (suc (count_kind k (map word_of cs))) (count_kind k (map word_of cs))) [
-      | true ↦ ap suc more
-      | false ↦ more
-    ]
-
-pub counted : (k : ℕ) (bs : List ℕ) (cs : List (List ℕ)) → cs ≡ chunks bs → length (filter (of_kind k) cs) ≡ count_kind k (words bs)
-counted k bs cs e = count_chunks k cs ∙ ap (count_kind k) (chunked bs cs e)
 
 -- the word at `place`, where the words from number i on are those that are sought
 record Found (k n at : ℕ) (ws : List ℕ) (place : ℕ) : Type 0 where
