@@ -13,9 +13,10 @@ use Rattle.barrier_paper.specs.declared.form.Phase.TheVariants.{Start, Case}
 use Rattle.barrier_paper.specs.declared.form.BarrierForm.{BarrierForm}
 use Rattle.barrier_paper.specs.Limits.{most_lines}
 use Rattle.barrier_paper.specs.Document.{CaseText, lines_in, StepFits, BarrierDocument, BarrierFormed, barrier_words, said, say, barrier_document}
-use Rattle.barrier_paper.specs.Form.{start, after_case, by_phase, barrier_step, ended, barrier_form, barrier_read}
+use Rattle.barrier_paper.specs.Form.{counts_of, no_case, start, after_case, by_phase, barrier_step, ended, barrier_form, barrier_read}
 use Rattle.barrier_paper.specs.Inverse.{BarrierPapersAreExact}
 use Rattle.barrier_paper.proofs.WordParts.{case_good, words_small}
+use Rattle.barrier_paper.proofs.Tables.{none_tabled, case_tabled}
 use Rattle.barrier_paper.proofs.Taking.{first_taken, between_ended}
 use Rattle.barrier_paper.proofs.States.{Sound}
 use Rattle.barrier_paper.proofs.Fronts.{StepCounted, Front}
@@ -28,7 +29,7 @@ abbrev begin : ℕ → ℕ → BarrierForm
 begin tanks valves = after_case (start tanks valves)
 
 begin_sound : (tanks valves : ℕ) → Sound (begin tanks valves)
-begin_sound tanks valves = record { begun = tt; few_named = omega arith; some_cases = omega arith; few_cases = omega arith; few = none }
+begin_sound tanks valves = record { begun = tt; few_named = omega arith; tabled = case_tabled no_case none_tabled (omega arith); some_cases = omega arith; few_cases = omega arith; few = none }
   where
     none : (i : ℕ) → get_or (0 ∷ []) i 0 ≤ most_lines
     none zero = omega arith
@@ -111,7 +112,7 @@ formed tanks valves (w ∷ ws) e n u some few p q =
     let d = said ws in
     let cs = d.lines ∷ d.cases in
     let none = nil_from_length d.matches f.tail.matched in
-    let counts : e.lines ≡ map length cs = f.body.counted ∙ rw zero-add in
+    let counts : counts_of e.lines ≡ map length cs = f.body.counted ∙ rw zero-add in
     let words_are : w ∷ ws ≡ barrier_words (record { cases = cs; steps = d.steps }) = ap (λ vs. w ∷ vs) (sym r.1) ∙ sym (words_case w d b.0 f) ∙ rw (b.0.kind_is, none) in
     rw b.0.kind_is (
       record {

@@ -6,30 +6,30 @@ use Rattle.paper.specs.Runs.{run}
 use Rattle.paper.proofs.Steps.{through}
 use Rattle.barrier_paper.specs.declared.form.BarrierForm.{BarrierForm}
 use Rattle.barrier_paper.specs.Document.{Said, said, say, nothing_said}
-use Rattle.barrier_paper.specs.Form.{last, longer, by_phase, barrier_step, ended}
+use Rattle.barrier_paper.specs.Form.{counts_of, last, longer, by_phase, barrier_step, ended}
 use Rattle.barrier_paper.proofs.Taking.{lefts_from, rights_from, Between, taken, takes, between_none, ended_between}
 use Rattle.barrier_paper.proofs.States.{Sound, sound_kept}
 use Rattle.barrier_paper.proofs.Fronts.{Front, no_weights, longer_none, front_more}
 use Rattle.barrier_paper.proofs.FrontWords.{front_words, words_more}
 use Rattle.barrier_paper.proofs.Peeling.{Peeled, peel}
 
-front_end : (s : BarrierForm) → Sound s → Between s.phase → Front s.lines s.phase s nothing_said
+front_end : (s : BarrierForm) → Sound s → Between s.phase → Front (counts_of s.lines) s.phase s nothing_said
 front_end s h b = record {
   lefts_fit = no_weights s.counts.tanks (lefts_from s.phase);
   rights_fit = no_weights s.counts.tanks (rights_from s.phase);
   in_case = inr (refl, refl);
   body = record {
-    few_lines = omega (arith, h.few (last s.lines));
+    few_lines = omega (arith, h.few (last (counts_of s.lines)));
     lines_fit = tt;
     few_cases = omega (arith, h.few_cases);
     cases_fit = tt;
-    counted = sym (append-nil (longer s.lines 0) ∙ longer_none s.lines);
+    counted = sym (append-nil (longer (counts_of s.lines) 0) ∙ longer_none (counts_of s.lines));
   };
   tail = record { matched = sym (between_none s.phase b); matches_fit = tt; steps_rise = tt };
   steps_fit = tt;
 }
 
-pub read : (s : BarrierForm) (at : ℕ) (ws : List ℕ) (e : BarrierForm) (n : ℕ) (u : Unit {0}) → Sound s → run barrier_step s at ws ≡ Ok e → ended e.phase n ≡ Ok u → Front e.lines s.phase s (said ws) × (front_words (said ws) ≡ ws)
+pub read : (s : BarrierForm) (at : ℕ) (ws : List ℕ) (e : BarrierForm) (n : ℕ) (u : Unit {0}) → Sound s → run barrier_step s at ws ≡ Ok e → ended e.phase n ≡ Ok u → Front (counts_of e.lines) s.phase s (said ws) × (front_words (said ws) ≡ ws)
 read s at [] e n u h p q =
     let same : s ≡ e = cc in
     (rw (← same) (front_end s h (ended_between s.phase n u h.begun (rw (← same) at q))), refl)
@@ -37,7 +37,7 @@ read s at (w ∷ ws) e n u h p q =
     let a = through (by_phase s.phase s at w) (λ t. run barrier_step t (at + 1) ws) e p in
     let t = taken s.phase s at w a.0 h.begun a.1 in
     let r = read a.0 (at + 1) ws e n u (sound_kept s w a.0 t h) a.2 q in
-    (front_more e.lines s w a.0 (said ws) h t r.0, words_more e.lines s w a.0 (said ws) t r.0 ∙ ap (λ vs. w ∷ vs) r.1)
+    (front_more (counts_of e.lines) s w a.0 (said ws) h t r.0, words_more (counts_of e.lines) s w a.0 (said ws) t r.0 ∙ ap (λ vs. w ∷ vs) r.1)
 
 -- words that are taken to the end, and that say a front
 pub record Run (s : BarrierForm) (at : ℕ) (ws : List ℕ) (d : Said) : Type 0 where

@@ -6,7 +6,7 @@ use Rattle.barrier_paper.specs.declared.form.Pending.{Pending}
 use Rattle.barrier_paper.specs.declared.form.Phase.TheVariants.{Case, Right}
 use Rattle.barrier_paper.specs.declared.form.BarrierForm.{BarrierForm}
 use Rattle.barrier_paper.specs.Document.{weight_word, line_words, joined, case_words, match_word, step_words, Said, say}
-use Rattle.barrier_paper.specs.Form.{waiting, after_step, after_match}
+use Rattle.barrier_paper.specs.Form.{counts_of, waiting, after_step, after_match}
 use Rattle.barrier_paper.proofs.WordParts.{CaseWord, LineWord, WeightWord, StepWord, MatchWord, weight_written, line_written, case_written, match_written, step_written}
 use Rattle.barrier_paper.proofs.Taking.{pending, Taken, a_case, a_line, a_left, a_right, a_step, a_match}
 use Rattle.barrier_paper.proofs.Fronts.{Front, bare}
@@ -43,5 +43,5 @@ words_more counts s w t d (a_case i h few e) f = words_case w d h (rw e at f)
 words_more counts s w t d (a_line i h few e) f = words_line w d h
 words_more counts s w t d (a_left least i h e) f = words_left s.counts.tanks least w d h
 words_more counts s w t d (a_right least i h e) f = words_right w d s.counts.tanks least (field w 22 6 + 1) h (rw e at f)
-words_more counts s w t d (a_step b h e) f = words_step w d (length s.lines) s.counts.valves (pending s.phase).least (after_step s w) h (rw e at f)
+words_more counts s w t d (a_step b h e) f = words_step w d (length (counts_of s.lines)) s.counts.valves (pending s.phase).least (after_step s w) h (rw e at f)
 words_more counts s w t d (a_match b h e) f = words_match w d (after_match (pending s.phase)) (pending s.phase).lines h (rw e at f)

@@ -10,8 +10,9 @@ use Rattle.barrier_paper.specs.declared.form.Phase.TheVariants.{Case, Left, Righ
 use Rattle.barrier_paper.specs.declared.form.BarrierForm.{BarrierForm}
 use Rattle.barrier_paper.specs.Limits.{most_cases, most_lines}
 use Rattle.barrier_paper.specs.Document.{Weight, WeightFits, RisingWeights, LineText, LineFits, CaseText, CaseFits, MatchFits, RisingSteps, weight_said, Said, say}
-use Rattle.barrier_paper.specs.Form.{in_phase, after_case, last, longer, after_line, waiting, after_step, after_match}
+use Rattle.barrier_paper.specs.Form.{counts_of, in_phase, after_case, last, longer, after_line, waiting, after_step, after_match}
 use Rattle.barrier_paper.proofs.WordParts.{CaseWord, LineWord, WeightWord, StepWord, MatchWord, weight_fits, match_fits, key_said}
+use Rattle.barrier_paper.proofs.Tables.{case_counted, line_counted}
 use Rattle.barrier_paper.proofs.Taking.{InCase, lefts_from, rights_from, pending, Between, Taken, a_case, a_line, a_left, a_right, a_step, a_match, left_in_case, right_in_case, none_in_case, between_none}
 use Rattle.barrier_paper.proofs.States.{Sound, waits}
 
@@ -48,7 +49,7 @@ pub record Front (counts : List ℕ) (ph : Phase) (s : BarrierForm) (d : Said) :
   pub lefts_fit : Weights s.counts.tanks (lefts_from ph) d.lefts
   pub rights_fit : Weights s.counts.tanks (rights_from ph) d.rights
   pub in_case : InCase ph ⊎ ((d.lines ≡ []) × (d.cases ≡ []))
-  pub body : Body counts s.counts.tanks s.lines d.lines d.cases
+  pub body : Body counts s.counts.tanks (counts_of s.lines) d.lines d.cases
   pub tail : Tail (pending ph) d.matches d.steps
   pub steps_fit : AllByRecursion (StepCounted s.counts.valves counts) d.steps
 
@@ -130,12 +131,12 @@ line_more counts tanks table l lines cases h f b =
     }
 
 module _ (counts : List ℕ) (ph : Phase) (s : BarrierForm) (sound : Sound s) (w : ℕ) (d : Said) where
-  front_case : InCase ph → CaseWord w → Front counts Case (after_case s) d → Front counts ph s (say w d)
-  front_case i h f = rw h.kind_is (record {
+  front_case : InCase ph → CaseWord w → length (counts_of s.lines) < most_cases → Front counts Case (after_case s) d → Front counts ph s (say w d)
+  front_case i h few f = rw h.kind_is (record {
     lefts_fit = no_weights s.counts.tanks (lefts_from ph);
     rights_fit = no_weights s.counts.tanks (rights_from ph);
     in_case = inl i;
-    body = case_more counts s.counts.tanks s.lines d.lines d.cases (sound.few _) f.body;
+    body = case_more counts s.counts.tanks (counts_of s.lines) d.lines d.cases (sound.few _) (rw (case_counted s.lines sound.tabled few) at f.body);
     tail = rw (none_in_case ph i) f.tail;
     steps_fit = f.steps_fit;
   })
@@ -145,7 +146,7 @@ module _ (counts : List ℕ) (ph : Phase) (s : BarrierForm) (sound : Sound s) (w
     lefts_fit = no_weights s.counts.tanks (lefts_from ph);
     rights_fit = no_weights s.counts.tanks (rights_from ph);
     in_case = inl i;
-    body = line_more counts s.counts.tanks s.lines _ d.lines d.cases sound.some_cases (record { lefts_fit = f.lefts_fit.0; lefts_rise = f.lefts_fit.1; rights_fit = f.rights_fit.0; rights_rise = f.rights_fit.1 }) f.body;
+    body = line_more counts s.counts.tanks (counts_of s.lines) _ d.lines d.cases sound.some_cases (record { lefts_fit = f.lefts_fit.0; lefts_rise = f.lefts_fit.1; rights_fit = f.rights_fit.0; rights_rise = f.rights_fit.1 }) (rw (line_counted s.lines sound.tabled) at f.body);
     tail = rw (none_in_case ph i) f.tail;
     steps_fit = f.steps_fit;
   })
@@ -174,7 +175,7 @@ module _ (counts : List ℕ) (ph : Phase) (s : BarrierForm) (sound : Sound s) (w
         steps_fit = f.steps_fit;
       })
 
-  front_step : Between ph → StepWord (length s.lines) s.counts.valves (pending ph).least w → let p = after_step s w in Front counts (waiting p) (in_phase (waiting p) s) d → Front counts ph s (say w d)
+  front_step : Between ph → StepWord (length (counts_of s.lines)) s.counts.valves (pending ph).least w → let p = after_step s w in Front counts (waiting p) (in_phase (waiting p) s) d → Front counts ph s (say w d)
   front_step b h f =
       let no = bare counts _ d (after_step s w) f in
       let t = waits_tail (after_step s w) d.matches d.steps f.tail in
@@ -213,7 +214,7 @@ module _ (counts : List ℕ) (ph : Phase) (s : BarrierForm) (sound : Sound s) (w
       })
 
 pub front_more : (counts : List ℕ) (s : BarrierForm) (w : ℕ) (t : BarrierForm) (d : Said) → Sound s → Taken s.phase s w t → Front counts t.phase t d → Front counts s.phase s (say w d)
-front_more counts s w t d sound (a_case i h few e) f = front_case counts s.phase s sound w d i h (rw e at f)
+front_more counts s w t d sound (a_case i h few e) f = front_case counts s.phase s sound w d i h few (rw e at f)
 front_more counts s w t d sound (a_line i h few e) f = front_line counts s.phase s sound w d i h (rw e at f)
 front_more counts s w t d sound (a_left least i h e) f = front_left counts s.phase s sound w d least i h (rw e at f)
 front_more counts s w t d sound (a_right least i h e) f = front_right counts s.phase s sound w d least i h (rw e at f)

@@ -1,3 +1,4 @@
+pub mod Tables
 pub mod WordParts
 pub mod Taking
 pub mod States
@@ -13,4 +14,3 @@ pub mod Blocks
 pub mod Parts
 pub mod Named
 pub mod Chains
-pub mod Tables

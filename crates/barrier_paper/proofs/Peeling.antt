@@ -1,13 +1,15 @@
 -- A well-formed front says nothing, or it is one word that is taken, before a well-formed front.
-use Rattle.std.proofs.Common.{◌≡◌, ℕ, ◌+◌, ◌*◌, ◌^◌, ◌≤◌, ◌⊎◌, List, [], ◌∷◌, ◌++◌, map, length, get_or, Some, None, Option, sym, refl, ap, ◌∙◌, inl, inr, ⊎_elim, zero-add, add-one, arith}
+use Rattle.std.proofs.Common.{◌≡◌, ℕ, ◌+◌, ◌*◌, ◌^◌, ◌<◌, ◌≤◌, ◌⊎◌, List, [], ◌∷◌, ◌++◌, map, length, get_or, Some, None, Option, sym, refl, ap, ◌∙◌, inl, inr, ⊎_elim, zero-add, add-one, arith}
 use Rattle.std.proofs.lemmas.List.{get_or-set_same, get_or_push, length-set, length_push}
 use Rattle.words.specs.Words.{field}
 use Rattle.barriers.specs.Steps.{Match, Step}
 use Rattle.barrier_paper.specs.declared.form.Phase.TheVariants.{Left, Right}
 use Rattle.barrier_paper.specs.declared.form.BarrierForm.{BarrierForm}
+use Rattle.barrier_paper.specs.Limits.{most_cases}
 use Rattle.barrier_paper.specs.Document.{Weight, LineText, CaseText, weight_word, match_word, weight_said, Said, say, nothing_said}
-use Rattle.barrier_paper.specs.Form.{in_phase, after_case, last, longer, after_line, waiting, after_step, after_match}
+use Rattle.barrier_paper.specs.Form.{counts_of, in_phase, after_case, last, longer, after_line, waiting, after_step, after_match}
 use Rattle.barrier_paper.proofs.WordParts.{WeightWord, line_head, step_head, weight_good, weight_says, line_good, case_good, match_good, step_word_says, step_good}
+use Rattle.barrier_paper.proofs.Tables.{case_counted, line_counted}
 use Rattle.barrier_paper.proofs.Taking.{InCase, lefts_from, rights_from, pending, Between, Taken, a_case, a_line, a_left, a_right, a_step, a_match, left_in_case, right_in_case, none_in_case, none_between}
 use Rattle.barrier_paper.proofs.States.{Sound}
 use Rattle.barrier_paper.proofs.Fronts.{Weights, Body, Front, no_weights, tail_waits, case_counts, line_counts, counts_end}
@@ -124,7 +126,7 @@ module _ (counts : List ℕ) (s : BarrierForm) (sound : Sound s) where
           lefts_fit = (fit.lefts_fit, fit.lefts_rise);
           rights_fit = (fit.rights_fit, fit.rights_rise);
           in_case = inl tt;
-          body = line_less counts s.counts.tanks s.lines l lines cases sound.some_cases f.body;
+          body = rw (line_counted s.lines sound.tabled) (line_less counts s.counts.tanks (counts_of s.lines) l lines cases sound.some_cases f.body);
           tail = rw (none_in_case s.phase i) at f.tail;
           steps_fit = f.steps_fit;
         };
@@ -134,16 +136,17 @@ module _ (counts : List ℕ) (s : BarrierForm) (sound : Sound s) where
   peel_case : (c : CaseText) (cases : List CaseText) (ms : List Match) (ss : List Step) → Front counts s.phase s (saying [] [] [] (c ∷ cases) ms ss) → Peeled counts s (saying [] [] [] (c ∷ cases) ms ss)
   peel_case c cases ms ss f =
       let i : InCase s.phase = ⊎_elim (λ i. i) (λ e. absurd (let n = ap length e.1 in omega arith)) f.in_case in
+      let few : length (counts_of s.lines) < most_cases = omega (arith, f.body.few_cases) in
       record {
         word = 6 * 2 ^ 28;
         next = after_case s;
         after = saying [] [] c cases ms ss;
-        took = a_case i case_good (omega (arith, f.body.few_cases)) refl;
+        took = a_case i case_good few refl;
         front = record {
           lefts_fit = refl;
           rights_fit = refl;
           in_case = inl tt;
-          body = case_less counts s.counts.tanks s.lines c cases f.body;
+          body = rw (case_counted s.lines sound.tabled few) (case_less counts s.counts.tanks (counts_of s.lines) c cases f.body);
           tail = rw (none_in_case s.phase i) at f.tail;
           steps_fit = f.steps_fit;
         };
@@ -189,7 +192,7 @@ module _ (counts : List ℕ) (s : BarrierForm) (sound : Sound s) where
         word = h;
         next = in_phase (waiting p) s;
         after = saying [] [] [] [] st.matches ss;
-        took = a_step (none_between s.phase sound.begun (sym t.matched)) (step_good (length s.lines) s.counts.valves (pending s.phase).least st few from fit.valve_there fit.valve_small to t.steps_rise.0) refl;
+        took = a_step (none_between s.phase sound.begun (sym t.matched)) (step_good (length (counts_of s.lines)) s.counts.valves (pending s.phase).least st few from fit.valve_there fit.valve_small to t.steps_rise.0) refl;
         front = record {
           lefts_fit = no_weights s.counts.tanks _;
           rights_fit = no_weights s.counts.tanks _;

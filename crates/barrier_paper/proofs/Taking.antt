@@ -10,7 +10,7 @@ use Rattle.barrier_paper.specs.declared.form.Phase.TheVariants.{Start, Case, Lef
 use Rattle.barrier_paper.specs.declared.form.BarrierForm.{BarrierForm}
 use Rattle.barrier_paper.specs.Limits.{most_cases, most_lines}
 use Rattle.barrier_paper.specs.Form as spec
-use Rattle.barrier_paper.specs.Form.{in_phase, after_case, last, after_line, waiting, after_step, after_match, by_phase}
+use Rattle.barrier_paper.specs.Form.{counts_of, in_phase, after_case, last, after_line, waiting, after_step, after_match, by_phase}
 use Rattle.barrier_paper.proofs.WordParts.{CaseWord, LineWord, WeightWord, StepWord, MatchWord}
 
 -- ---- what may come in a phase
@@ -55,11 +55,11 @@ Begun _ = Unit {0}
 
 -- a word that is taken in a phase
 pub data Taken (ph : Phase) (s : BarrierForm) (w : ℕ) (t : BarrierForm) : Type 0 where
-  a_case : InCase ph → CaseWord w → length s.lines < most_cases → t ≡ after_case s → Taken ph s w t
-  a_line : InCase ph → LineWord w → get_or s.lines (last s.lines) 0 < most_lines → t ≡ after_line s → Taken ph s w t
+  a_case : InCase ph → CaseWord w → length (counts_of s.lines) < most_cases → t ≡ after_case s → Taken ph s w t
+  a_line : InCase ph → LineWord w → get_or (counts_of s.lines) (last (counts_of s.lines)) 0 < most_lines → t ≡ after_line s → Taken ph s w t
   a_left : (least : ℕ) → lefts_from ph ≡ Some least → WeightWord 8 s.counts.tanks least w → t ≡ in_phase (Left (field w 22 6 + 1)) s → Taken ph s w t
   a_right : (least : ℕ) → rights_from ph ≡ Some least → WeightWord 9 s.counts.tanks least w → t ≡ in_phase (Right (field w 22 6 + 1)) s → Taken ph s w t
-  a_step : Between ph → StepWord (length s.lines) s.counts.valves (pending ph).least w → t ≡ in_phase (waiting (after_step s w)) s → Taken ph s w t
+  a_step : Between ph → StepWord (length (counts_of s.lines)) s.counts.valves (pending ph).least w → t ≡ in_phase (waiting (after_step s w)) s → Taken ph s w t
   a_match : 1 ≤ (pending ph).matches → MatchWord (pending ph).lines w → t ≡ in_phase (waiting (after_match (pending ph))) s → Taken ph s w t
 
 -- ---- a word that leads on is taken
@@ -229,5 +229,5 @@ between_ended (Matches m) n b = elim b [ ]
 between_ended _ n b = refl
 
 -- the first word of all
-pub first_taken : (s : BarrierForm) (at w : ℕ) (t : BarrierForm) → length s.lines < most_cases → by_phase Start s at w ≡ Ok t → CaseWord w × (t ≡ after_case s)
+pub first_taken : (s : BarrierForm) (at w : ℕ) (t : BarrierForm) → length (counts_of s.lines) < most_cases → by_phase Start s at w ≡ Ok t → CaseWord w × (t ≡ after_case s)
 first_taken s at w t few p = (record { kind_is = grind (arith, nat_tests); plain = grind (arith, nat_tests) }, grind (arith, nat_tests))

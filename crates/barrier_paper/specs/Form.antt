@@ -1,5 +1,5 @@
 -- The form of a barrier paper, word by word: cases with their lines and weights, then steps with their matches.
-use Rattle.std.specs.Prelude.{ℕ, ◌+◌, ◌-◌, cond, ◌&&◌, List, [], ◌∷◌, ◌++◌, length, Ok, Err, Result, ◌==◌, nat_le, nat_lt, slice_index, slice_set}
+use Rattle.std.specs.Prelude.{ℕ, ◌+◌, ◌-◌, cond, ◌&&◌, List, ◌++◌, length, take, drop, replicate, Ok, Err, Result, ◌==◌, nat_le, nat_lt, slice_index, slice_set}
 use Rattle.words.specs.declared.faults.PaperFault.{PaperFault}
 use Rattle.words.specs.declared.faults.PaperFault.TheVariants.{Kind, Unnamed, Limit, Order, Count, Due}
 use Rattle.words.specs.Words.{words, kind, field}
@@ -10,25 +10,21 @@ use Rattle.barrier_paper.specs.declared.form.Phase.{Phase}
 use Rattle.barrier_paper.specs.declared.form.Phase.TheVariants.{Start, Case, Left, Right, Steps, Matches}
 use Rattle.barrier_paper.specs.declared.form.Pending.{Pending}
 use Rattle.barrier_paper.specs.declared.form.BarrierForm.{BarrierForm}
+use Rattle.barrier_paper.specs.declared.line_counts.LineCounts.{LineCounts}
 use Rattle.barrier_paper.specs.Limits.{most_cases, most_lines, most_line_weight}
 use Rattle.barrier_paper.specs.Document.{BarrierDocument, barrier_document}
 
-abbrev pub start : ℕ → ℕ → BarrierForm
-start tanks valves = record { counts = record { tanks = tanks; valves = valves }; phase = Start; lines = [] }
+-- how many lines each case has
+abbrev pub counts_of : LineCounts → List ℕ
+counts_of x = take x.cases x.table
 
--- the same form in another phase
-abbrev pub in_phase : Phase → BarrierForm → BarrierForm
-in_phase phase s = record s { phase = phase }
+-- before the first case
+abbrev pub no_case : LineCounts
+no_case = record { table = replicate most_cases 0; cases = 0 }
 
--- one more case, which has no line yet
-abbrev pub after_case : BarrierForm → BarrierForm
-after_case s = record s { phase = Case; lines = s.lines ++ 0 ∷ [] }
-
-abbrev pub case : BarrierForm → ℕ → ℕ → Result BarrierForm PaperFault
-case s at w =
-    need (field w 0 28 == 0) (Unnamed at) (
-    need (nat_lt (length s.lines) most_cases) (Count at) (
-    Ok (after_case s)))
+-- with one more case, which has no line yet
+abbrev pub with_case : LineCounts → LineCounts
+with_case x = record { table = slice_set x.table x.cases 0; cases = x.cases + 1 }
 
 -- so many more lines for the last case
 abbrev pub last : List ℕ → ℕ
@@ -37,13 +33,35 @@ last table = length table - 1
 abbrev pub longer : List ℕ → ℕ → List ℕ
 longer table n = slice_set table (last table) (slice_index table (last table) + n)
 
+-- with one more line for the last case; what stands behind the cases stays
+abbrev pub with_line : LineCounts → LineCounts
+with_line x = record x { table = longer (counts_of x) 1 ++ drop x.cases x.table }
+
+abbrev pub start : ℕ → ℕ → BarrierForm
+start tanks valves = record { counts = record { tanks = tanks; valves = valves }; phase = Start; lines = no_case }
+
+-- the same form in another phase
+abbrev pub in_phase : Phase → BarrierForm → BarrierForm
+in_phase phase s = record s { phase = phase }
+
+-- one more case
+abbrev pub after_case : BarrierForm → BarrierForm
+after_case s = record s { phase = Case; lines = with_case s.lines }
+
+abbrev pub case : BarrierForm → ℕ → ℕ → Result BarrierForm PaperFault
+case s at w =
+    need (field w 0 28 == 0) (Unnamed at) (
+    need (nat_lt (length (counts_of s.lines)) most_cases) (Count at) (
+    Ok (after_case s)))
+
+-- one more line for the last case
 abbrev pub after_line : BarrierForm → BarrierForm
-after_line s = record s { phase = Left 0; lines = longer s.lines 1 }
+after_line s = record s { phase = Left 0; lines = with_line s.lines }
 
 abbrev pub line : BarrierForm → ℕ → ℕ → Result BarrierForm PaperFault
 line s at w =
     need (field w 1 27 == 0) (Unnamed at) (
-    need (nat_lt (slice_index s.lines (last s.lines)) most_lines) (Count at) (
+    need (nat_lt (slice_index (counts_of s.lines) (last (counts_of s.lines))) most_lines) (Count at) (
     Ok (after_line s)))
 
 -- what a weight word has to keep on a plant with so many tanks, its tank not below `least`
@@ -64,12 +82,12 @@ waiting p = cond (p.matches == 0) (Steps p.least) (Matches p)
 
 -- the matches of a step: one for each line of the case reached, naming a line of the case left
 abbrev pub after_step : BarrierForm → ℕ → Pending
-after_step s w = record { matches = slice_index s.lines (field w 13 4); lines = slice_index s.lines (field w 23 4); least = field w 17 11 + 1 }
+after_step s w = record { matches = slice_index (counts_of s.lines) (field w 13 4); lines = slice_index (counts_of s.lines) (field w 23 4); least = field w 17 11 + 1 }
 
 abbrev pub step : ℕ → BarrierForm → ℕ → ℕ → Result BarrierForm PaperFault
 step least s at w =
     need (field w 0 13 == 0) (Unnamed at) (
-    need (nat_lt (field w 23 4) (length s.lines) && (nat_lt (field w 17 6) s.counts.valves && nat_lt (field w 13 4) (length s.lines))) (Limit at) (
+    need (nat_lt (field w 23 4) (length (counts_of s.lines)) && (nat_lt (field w 17 6) s.counts.valves && nat_lt (field w 13 4) (length (counts_of s.lines)))) (Limit at) (
     need (nat_le least (field w 17 11)) (Order at) (
     Ok (in_phase (waiting (after_step s w)) s))))
 

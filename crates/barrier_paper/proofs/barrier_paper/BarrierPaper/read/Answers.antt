@@ -1,4 +1,4 @@
-use Rattle.std.proofs.Common.{◌≡◌, ◌<◌, Ok, ap, sym, ◌∙◌, arith}
+use Rattle.std.proofs.Common.{◌≡◌, ◌<◌, Ok, Err, ap, sym, ◌∙◌, arith}
 use Rattle.std.proofs.ByRecursion.{All-from_get_or}
 use Rattle.std.proofs.lemmas.Result.{err_from_is_err_and}
 use Rattle.words.specs.Words.{words}
@@ -20,6 +20,12 @@ runs c = c.in_ok-form.ensures ∙ ap (λ s. whole barrier_step s most_evidence_w
 
 pub returns-clause-document : goal.returns-clause-document
 returns-clause-document c = rw (← runs (goal.at.returns-clause-document c).In_ok-form, length_words c.args.bytes.now, ← c.in_ok-end.ensures)
+
+pub returns-in_err-form-clause-document : goal.returns-in_err-form-clause-document
+returns-in_err-form-clause-document c =
+    let p = err_from_is_err_and c.from_residual.result c.from_residual.ensures.1 in
+    let ran : Err c.in_err-form.field-0.0 ≡ whole barrier_step (start c.args.counts.tanks c.args.counts.valves) most_evidence_words c.args.bytes.now = c.in_err-form.ensures ∙ ap (λ s. whole barrier_step s most_evidence_words c.args.bytes.now) c.start.ensures in
+    rw (p.1, p.2, ← ran)
 
 pub returns-in_err-end-clause-document : goal.returns-in_err-end-clause-document
 returns-in_err-end-clause-document c =
