@@ -6,12 +6,12 @@ ghost use Rattle.barrier_paper.specs.Limits.{most_cases, most_lines};
 
 use crate::limits::{MOST_CASES, MOST_LINES};
 
-// The lines of each case, in a table of bytes: a form that holds it stays small and `Copy`. It has no `Model`, since a form that holds one
-// cannot be passed by value and used again, and no invariant, so that the definitions can write it as a plain record.
+// The lines of each case, in a table of bytes: a form that holds it stays small and `Copy`. It has no `Model`, since a form that holds
+// a struct with a model cannot be passed by value and used again, and no invariant, so that definitions can write it as a plain record.
 #[derive(Clone, Copy, Debug)]
 pub struct LineCounts {
-    table: [u8; MOST_CASES],
-    cases: usize,
+    pub table: [u8; MOST_CASES],
+    pub cases: usize,
 }
 
 impl LineCounts {

@@ -51,8 +51,8 @@ impl<'a, P: Plant> Going<'a, P> {
             })
     }
 
-    // The tanks that are given to once a valve goes. The plant's own tanks alone are asked about, which spares most
-    // of the table where a plant has few; so a `for` by number, since a table made by `from_fn` is asked for whole.
+    // The tanks that are given to once a valve goes. Only the plant's own tanks are asked about, by a `for`: a table made by `from_fn`
+    // goes through all 64.
     fn given_with(&self, valve: usize) -> TankSet
         ensures { (r : ℕ) → marked result r ≡ (marked self.now.given r || nat_lt 0 ((P.Plant.meaning self.now.plant.now).outlet valve r)) }
     {

@@ -9,7 +9,7 @@ use weighing::faults::{QuestionFault, Side, TotalsFault, WeighingFault};
 use weighing::weigh::weigh;
 use words::{PaperFault, Part, WordFault};
 
-// Two fillings, and the number and the place of the refusal that they meet: 0 and 0 where they are joined.
+// Two fillings, and the number and the place of the refusal that they meet: None where they are joined.
 #[derive(Clone, Copy)]
 struct Asked {
     source: &'static [u32],
